@@ -1,0 +1,4 @@
+pub mod Bits
+pub mod Rounding
+pub mod Signed
+pub mod Table

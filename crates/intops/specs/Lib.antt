@@ -1,0 +1,4 @@
+pub mod Bits
+pub mod Bounds
+pub mod Choice
+pub mod Rounding

@@ -1,0 +1,3 @@
+pub mod Averages
+pub mod Packing
+pub mod Projection

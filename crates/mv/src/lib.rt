@@ -1,0 +1,241 @@
+// Projection, scaling and packing of motion vectors, and the averages of the field's passes: the
+// leaves of refmvs.rs.
+ghost use mathlib.Core.Path.{_≡_};
+ghost use Prim.Native.Nat.{_<_, _≤_, _/_, _^_};
+ghost use lib.IntN.{pos, natAbs, _*ℤ_};
+ghost use Rattle.intops.specs.Choice.{withSign};
+ghost use Rattle.intops.specs.Bounds.{Within};
+ghost use Rattle.intops.specs.Rounding.{roundDiv};
+ghost use Rattle.levels.specs.Answer.{says};
+ghost use Rattle.mv.specs.Projection.{pastRange, reciprocal, projectionFactor, scaledBy, scaledVector, mvProjection, scaleMv};
+ghost use Rattle.mv.specs.Packing.{packCode, unpackMag, packed, unpacked};
+ghost use Rattle.mv.specs.Averages.{smoothed, gapMean, SumOf, Averaged};
+use levels::Mv;
+use levels::MvAnswer;
+use levels::QMv;
+
+// 16384 / d, the whole part, and 0 for 0.
+const DIV_MULT: [u16; 32] = [
+    0,
+    16384,
+    8192,
+    5461,
+    4096,
+    3276,
+    2730,
+    2340,
+    2048,
+    1820,
+    1638,
+    1489,
+    1365,
+    1260,
+    1170,
+    1092,
+    1024,
+    963,
+    910,
+    862,
+    819,
+    780,
+    744,
+    712,
+    682,
+    655,
+    630,
+    606,
+    585,
+    564,
+    546,
+    528,
+];
+
+pub fn div_mult(d: usize) -> u16
+    requires { ⌜ d < 32 ⌝ }
+    ensures { λ r. ⌜ r ≡ reciprocal d ⌝ }
+{
+    DIV_MULT[d]
+}
+
+// num / den as a multiple of 1/16384, num clipped to -31..31 and den to 1..31.
+pub fn projection_factor(num: i32, den: i32) -> i32
+    ensures { λ r. ⌜ r ≡ projectionFactor num den ⌝ }
+{
+    let n = intops::iclip(num, -31, 31);
+    let d = intops::iclip(den, 1, 31);
+    let m = div_mult(d as usize);
+    n * (m as i32)
+}
+
+// v times sf / 16384, rounded to nearest, halves away from zero, then clipped. Any v: the product
+// has 64 bits.
+pub fn scale_comp(v: i32, sf: i32, min: i32, max: i32) -> i32
+    requires { ⌜ Within 507904 sf ⌝ }
+    ensures { λ r. ⌜ r ≡ scaledBy sf «min» «max» v ⌝ }
+{
+    let p = (v as i64) * (sf as i64);
+    intops::iclip64to32(intops::round_shift(p, 14), min, max)
+}
+
+// Both components scaled: within the library, where the factor is in range already.
+pub fn scale_vector(mv: Mv, sf: i32, min: i32, max: i32) -> Mv
+    requires { ⌜ Within 507904 sf ⌝ }
+    ensures { λ r. ⌜ r ≡ scaledVector sf «min» «max» mv ⌝ }
+{
+    let y = scale_comp(mv.y, sf, min, max);
+    let x = scale_comp(mv.x, sf, min, max);
+    Mv { y, x }
+}
+
+// Refusal 1's test of the components.
+pub fn past_range(mv: Mv) -> bool
+    ensures { λ r. ⌜ r ≡ pastRange mv ⌝ }
+{
+    (65535 < intops::unsigned_abs(mv.y)) | (65535 < intops::unsigned_abs(mv.x))
+}
+
+pub fn mv_projection(mv: Mv, num: i32, den: i32, min: i32, max: i32) -> MvAnswer
+    ensures { λ r. ⌜ says r ≡ mvProjection mv num den «min» «max» ⌝ }
+{
+    if past_range(mv) {
+        return MvAnswer::OutOfRange;
+    }
+    if max < min {
+        return MvAnswer::OutOfRange;
+    }
+    let sf = projection_factor(num, den);
+    MvAnswer::Vector(scale_vector(mv, sf, min, max))
+}
+
+pub fn scale_mv(mv: Mv, sf: i32) -> MvAnswer
+    ensures { λ r. ⌜ says r ≡ scaleMv mv sf ⌝ }
+{
+    if past_range(mv) {
+        return MvAnswer::OutOfRange;
+    }
+    if 507904 < intops::unsigned_abs(sf) {
+        return MvAnswer::OutOfRange;
+    }
+    MvAnswer::Vector(scale_vector(mv, sf, -65535, 65535))
+}
+
+// The code of a magnitude: below 32, the shift b is 0. Without a branch, as magnitudes are anything.
+pub fn quantize_mv_comp(absv: u32) -> u32
+    requires { ⌜ absv < 2048 ⌝ }
+    ensures { λ r. ⌜ r ≡ packCode absv ⌝ }
+{
+    let b = intops::ulog2(intops::umax(absv, 16)) - 4;
+    (absv >> b) + 16 * b
+}
+
+// The code of a component, with its sign.
+pub fn quantize_signed(v: i32) -> i8
+    requires { ⌜ natAbs v < 2048 ⌝ }
+    ensures { λ r. ⌜ r ≡ withSign v (packCode (natAbs v)) ⌝ }
+{
+    intops::apply_sign(quantize_mv_comp(intops::unsigned_abs(v)), v) as i8
+}
+
+pub fn quantize_mv(mv: Mv) -> QMv
+    ensures { λ r. ⌜ r ≡ packed mv ⌝ }
+{
+    if 2048 <= intops::unsigned_abs(mv.y) {
+        return QMv { y: -128, x: -128 };
+    }
+    if 2048 <= intops::unsigned_abs(mv.x) {
+        return QMv { y: -128, x: -128 };
+    }
+    let y = quantize_signed(mv.y);
+    let x = quantize_signed(mv.x);
+    QMv { y, x }
+}
+
+// The least magnitude of a code: below 32, the shift b is 0.
+pub fn dequantize_abs(code: u32) -> u32
+    requires { ⌜ code < 128 ⌝ }
+    ensures { λ r. ⌜ r ≡ unpackMag code ⌝ }
+{
+    let b = intops::umax(code / 16, 1) - 1;
+    (code - 16 * b) << b
+}
+
+// The component of a byte that is not -128.
+pub fn dequantize_mv_comp(v: i32) -> i32
+    requires { ⌜ natAbs v < 128 ⌝ }
+    ensures { λ r. ⌜ r ≡ withSign v (unpackMag (natAbs v)) ⌝ }
+{
+    intops::apply_sign(dequantize_abs(intops::unsigned_abs(v)), v)
+}
+
+pub fn dequantize_mv(mv: QMv) -> MvAnswer
+    ensures { λ r. ⌜ says r ≡ unpacked mv ⌝ }
+{
+    if mv.y == -128 {
+        if mv.x == -128 {
+            return MvAnswer::Vector(Mv {
+                y: levels::INVALID_MV,
+                x: 0,
+            });
+        }
+        return MvAnswer::HalfMark;
+    }
+    if mv.x == -128 {
+        return MvAnswer::HalfMark;
+    }
+    let y = dequantize_mv_comp(mv.y as i32);
+    let x = dequantize_mv_comp(mv.x as i32);
+    MvAnswer::Vector(Mv { y, x })
+}
+
+// sum times idiv / 2^bits, rounded to nearest, halves away from zero: the average of n cells, where
+// idiv is the whole part of 2^bits / n. The n cells bound the sum, so that the average has 32 bits.
+pub fn average_of(sum: i64, n: usize, idiv: u32, bits: u32) -> i32
+    requires { ⌜ Averaged n sum idiv bits ⌝ }
+    ensures { λ r. ⌜ r ≡ roundDiv (2 ^ bits) (sum *ℤ pos idiv) ⌝ }
+{
+    let p = sum * (idiv as i64);
+    intops::round_shift(p, bits) as i32
+}
+
+// SMOOTHEN_IDIV: 65536 / n, the whole part.
+pub fn smoothen_idiv(n: usize) -> u32
+    requires { ⌜ (1 ≤ n) × (n ≤ 5) ⌝ }
+    ensures { λ r. ⌜ r ≡ 65536 / n ⌝ }
+{
+    match n {
+        1 => 65536,
+        2 => 32768,
+        3 => 21845,
+        4 => 16384,
+        _ => 13107,
+    }
+}
+
+// The average of smoothen over n cells.
+pub fn smooth_average(sum: i64, n: usize) -> i32
+    requires { ⌜ (1 ≤ n) × (n ≤ 5) × SumOf n sum ⌝ }
+    ensures { λ r. ⌜ r ≡ smoothed n sum ⌝ }
+{
+    average_of(sum, n, smoothen_idiv(n), 16)
+}
+
+// 256 / n, the whole part.
+pub fn gap_idiv(n: usize) -> u32
+    requires { ⌜ (1 ≤ n) × (n ≤ 4) ⌝ }
+    ensures { λ r. ⌜ r ≡ 256 / n ⌝ }
+{
+    match n {
+        1 => 256,
+        2 => 128,
+        3 => 85,
+        _ => 64,
+    }
+}
+
+// The average of fill_gap_proj and fill_gap_traj over n cells.
+pub fn gap_average(sum: i64, n: usize) -> i32
+    requires { ⌜ (1 ≤ n) × (n ≤ 4) × SumOf n sum ⌝ }
+    ensures { λ r. ⌜ r ≡ gapMean n sum ⌝ }
+{
+    average_of(sum, n, gap_idiv(n), 8)
+}

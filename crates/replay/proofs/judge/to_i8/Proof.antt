@@ -1,0 +1,20 @@
+-- `replay::judge::to_i8` is safe and ends. Assumes nothing.
+use borrow.Author.Needs.{needs}
+use Rattle.intops.proofs.Signed.{signed!, back, ud}
+use Rattle.replay.proofs.judge.to_i8.Statement.{statement}
+use Rattle.replay.proofs.judge.to_i8.Tie as tie
+
+cast-result : tie.Need-cast-result
+cast-result c = let v = c .before .before .args .v in let f = c .before .before .fits .v in let h = simp back at (c .before .if1 .left) in let k = simp back at (c .if2 .left) in simp back (omega (signed!, ud v))
+
+returns : tie.Need-returns
+returns c = search needs
+
+returns-2 : tie.Need-returns-2
+returns-2 c = search needs
+
+returns-3 : tie.Need-returns-3
+returns-3 c = search needs
+
+pub to-i8-spec : {M : Type 1} → statement M
+to-i8-spec = tie.close (tie.spec cast-result returns returns-2 returns-3)

@@ -1,0 +1,17 @@
+//! The published Rust functions and the library's C entries, side by side.
+
+// refmvs, intops, env, levels and headers, at the crate root as their own paths want them.
+include!(concat!(env!("OUT_DIR"), "/published.rs"));
+#[allow(dead_code)]
+mod tables;
+
+pub mod answers;
+pub mod args;
+pub mod cases;
+pub mod compare;
+pub mod entry;
+pub mod expected;
+pub mod reference;
+pub mod rng;
+pub mod shim;
+pub mod unpack;

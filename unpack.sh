@@ -1,0 +1,9 @@
+#!/usr/bin/env bash
+# The main job: proves and builds the program unpack where that is not done yet, and runs it on the
+# file named, or on the shipped sample.
+set -euo pipefail
+root=$(cd "$(dirname "$0")" && pwd)
+. "$root/tests/setup.sh"
+need rt
+[ -x "$root/target/bin/unpack" ] || (cd "$root" && rt check unpack >&2)
+exec "$root/target/bin/unpack" < "${1:-$root/examples/sample.mv}"
