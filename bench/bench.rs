@@ -3,7 +3,7 @@ use std::hint::black_box;
 use std::process::ExitCode;
 use std::time::{Duration, Instant};
 
-use oracle::entry::{self, OrderHint};
+use oracle::entry::{self, Header, OrderHint, Saved};
 use oracle::rng::Rng;
 use oracle::{args, shim};
 
@@ -67,6 +67,44 @@ fn packed(rng: &mut Rng) -> [i8; 2] {
     match rng.one_in(16) {
         true => [-128, -128],
         false => [rng.within(-127, 127) as i8, rng.within(-127, 127) as i8],
+    }
+}
+
+/// With sources to pick. Half have their hints near the frame's, half of the saved hints are those of
+/// slots, and TIP is on in half.
+fn header(rng: &mut Rng) -> Header {
+    let bits = rng.within(4, 8);
+    let frame = rng.word() as i32;
+    let spread = if rng.one_in(2) { 8 } else { 128 };
+    let slots = rng.within(2, 7);
+    let near = |rng: &mut Rng, spread: i32| OrderHint {
+        value: ((frame + rng.within(-spread, spread)) & ((1 << bits) - 1)) as u8,
+    };
+    let ref_poc: [OrderHint; 7] = std::array::from_fn(|_| near(rng, spread));
+    let saved = |rng: &mut Rng| match rng.one_in(2) {
+        true => ref_poc[rng.within(0, 6) as usize],
+        false => near(rng, 128),
+    };
+    let tip = rng.within(0, 1) as u8;
+    Header {
+        order_hint_n_bits: bits as u32,
+        width: rng.within(1, 65_536) as u32,
+        height: rng.within(1, 65_536) as u32,
+        n_ref_frames: slots as u32,
+        tip,
+        sb128: rng.within(0, 2) as u8,
+        tmvp_sample_step: rng.within(1, 2) as u8,
+        use_ref_frame_mvs: 1,
+        has_bothside_refs: rng.within(0, 1) as u8,
+        tip_frame_mode: tip * rng.within(0, 2) as u8,
+        tip_reference: std::array::from_fn(|_| rng.within(0, slots - 1) as i8),
+        frame_offset: near(rng, 0),
+        ref_poc,
+        saved: std::array::from_fn(|_| Saved {
+            ref_poc: std::array::from_fn(|_| saved(rng)),
+            refcnt: rng.within(0, 7) as u8,
+        }),
+        rp_ref: [1; 7],
     }
 }
 
@@ -150,6 +188,20 @@ fn time_all(rng: &mut Rng) {
             let mut out = [0; 1];
             unsafe { f(n, a, b, out.as_mut_ptr()) };
             black_box(&out);
+        },
+    );
+    // Rust's share of taking the header over, zeroing and handing out: see shim::reused_frame.
+    time::<entry::InitFrame, _>(
+        "init_frame",
+        [
+            entry::refmvs_init_frame,
+            shim::init_frame,
+            shim::tested::init_frame,
+        ],
+        rng,
+        header,
+        |f, &header| {
+            black_box(&unsafe { f(header) });
         },
     );
 }

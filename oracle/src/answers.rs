@@ -3,7 +3,9 @@ use std::collections::HashSet;
 use std::io::{self, BufWriter, Write};
 
 use crate::cases;
+use crate::entry::Header;
 use crate::expected::{self, Answer};
+use crate::fields;
 use crate::reference;
 use crate::rng::Rng;
 
@@ -36,6 +38,7 @@ pub fn write(seed: u64) -> io::Result<()> {
         let random = |rng: &mut Rng| (n, rng.within(-n * GAP_LIMIT, n * GAP_LIMIT));
         list.kind(LINES / 4, sum_edges(n, GAP_LIMIT), gap, random)?;
     }
+    list.kind(LINES, frame_edges(), frame, cases::setup::random)?;
     list.out.flush()
 }
 
@@ -52,7 +55,13 @@ impl<W: Write> List<W> {
 # dequantize y x refusal y x
 # hint n a b refusal difference
 # smooth n sum mean
-# gap n sum mean"
+# gap n sum mean
+# frame header refusal record, fields and elements in the order of include/refmvs.h:
+#   header order_hint_n_bits width height n_ref_frames tip sb128 tmvp_sample_step use_ref_frame_mvs
+#     has_bothside_refs tip_frame_mode tip_reference*2 frame_offset ref_poc*7 (ref_poc*7 refcnt)*7 rp_ref*7
+#   record width height n_ref_frames sb128 tmvp_sample_step tip_frame_mode tip_reference*2 tip_delta
+#     tip_sf*2 ref_flip rp_ref*7 ref_sign*7 pocdiff*7 abspocdiff*7 mfmv_mask use_ref_frame_mvs n_mfmvs
+#     (reference tgt dir ref2cur ref2ref*7 ref2idx*7 ref2sf0*7 ref2sf1*7)*4"
         )
     }
 
@@ -121,6 +130,17 @@ fn smooth((n, sum): (i32, i32)) -> String {
 
 fn gap((n, sum): (i32, i32)) -> String {
     format!("gap {n} {sum} {}", reference::gap_mean(n as usize, sum))
+}
+
+fn frame(header: Header) -> String {
+    let answer = expected::setup(&header);
+    let record = fields::frame(&answer.unwrap_or_default());
+    format!(
+        "frame {} {} {}",
+        fields::text(fields::header(&header)),
+        answer.err().unwrap_or(0),
+        fields::text(record.into_iter().flat_map(|(_, numbers)| numbers))
+    )
 }
 
 fn project_edges() -> Vec<[i32; 6]> {
@@ -193,6 +213,16 @@ fn hint_edges() -> Vec<(u32, u8, u8)> {
         all.extend([(n, 0, 0), (n, 5, 3), (n, 0, 255)]);
     }
     all
+}
+
+fn frame_edges() -> Vec<Header> {
+    let traps = cases::setup::traps().into_iter().map(|trap| trap.header);
+    let past = cases::setup::past_limits().into_iter();
+    traps
+        .chain(cases::setup::at_limits())
+        .chain(past.map(|(_, header)| header))
+        .chain(cases::setup::refused_pairs())
+        .collect()
 }
 
 fn random_bytes(rng: &mut Rng) -> [i8; 2] {

@@ -3,6 +3,8 @@ use crate::expected::FACTOR_LIMIT;
 use crate::reference;
 use crate::rng::Rng;
 
+pub mod setup;
+
 const MIN: i32 = i32::MIN;
 const MAX: i32 = i32::MAX;
 

@@ -1,10 +1,11 @@
 //! The library against the expected answers: numbers answered, and every element of lent buffers.
-use std::fmt::{Debug, Display};
+use std::fmt::Debug;
 use std::time::{Duration, Instant};
 
 use crate::cases;
-use crate::entry::{self, OrderHint};
+use crate::entry::{self, Header, OrderHint, Setup};
 use crate::expected::{self, Answer};
+use crate::fields;
 use crate::rng::Rng;
 
 const RANDOM_CASES: usize = 1_000_000;
@@ -57,6 +58,7 @@ pub fn run(seed: u64) -> bool {
     comparison.kind("project", Comparison::all_projections);
     comparison.kind("scale", Comparison::all_scalings);
     comparison.kind("hint", Comparison::all_hints);
+    comparison.kind("setup", Comparison::all_setups);
     let Comparison {
         total, differences, ..
     } = comparison;
@@ -97,9 +99,9 @@ impl Comparison {
         let wanted_number = expected.err().unwrap_or(0);
         self.count(wanted_number);
         if number != wanted_number || lent != wanted {
-            self.difference(format!(
-                "{input:?}: library {number} {lent:?}, expected {wanted_number} {wanted:?}"
-            ));
+            self.difference(|| {
+                format!("{input:?}: library {number} {lent:?}, expected {wanted_number} {wanted:?}")
+            });
         }
     }
 
@@ -112,10 +114,10 @@ impl Comparison {
         }
     }
 
-    fn difference(&mut self, text: impl Display) {
+    fn difference(&mut self, text: impl FnOnce() -> String) {
         self.differences += 1;
         if self.differences <= PRINTED_DIFFERENCES {
-            println!("{} {text}", self.kind);
+            println!("{} {}", self.kind, text());
         }
     }
 
@@ -153,6 +155,19 @@ impl Comparison {
         self.check((n, a, b), expected, |out| unsafe {
             entry::refmvs_get_poc_diff(n, poc0, poc1, out)
         });
+    }
+
+    fn setup(&mut self, header: Header) -> Setup {
+        let wanted = match expected::setup(&header) {
+            Ok(frame) => Setup::accepted(frame),
+            Err(number) => Setup::refused(number),
+        };
+        let setup = unsafe { entry::refmvs_init_frame(header) };
+        self.count(wanted.refusal);
+        if setup != wanted {
+            self.difference(|| setup_difference(&header, &setup, &wanted));
+        }
+        wanted
     }
 
     fn all_bytes(&mut self) {
@@ -245,4 +260,72 @@ impl Comparison {
             }
         }
     }
+    fn all_setups(&mut self) {
+        self.setup_traps();
+        self.setup_refusals();
+        for _ in 0..RANDOM_CASES {
+            let header = cases::setup::random(&mut self.rng);
+            let refusal = self.setup(header).refusal;
+            assert_eq!(refusal, 0, "a random header is refused: {header:?}");
+        }
+        for _ in 0..RANDOM_CASES / 16 {
+            let header = cases::setup::random_refused(&mut self.rng);
+            self.setup(header);
+        }
+    }
+
+    /// Every trap as it is, with all hint bits and slot counts, and with all choices of planes.
+    fn setup_traps(&mut self) {
+        for cases::setup::Trap {
+            name,
+            header,
+            shows,
+        } in cases::setup::traps()
+        {
+            let wanted = self.setup(header);
+            let shown = wanted.refusal == 0 && shows(&wanted.frame);
+            assert!(shown, "no trap: {name}: {wanted:?}");
+            for order_hint_n_bits in 0..=9 {
+                for n_ref_frames in 0..=8 {
+                    self.setup(Header {
+                        order_hint_n_bits,
+                        n_ref_frames,
+                        ..header
+                    });
+                }
+            }
+            for planes in 0..128u8 {
+                let rp_ref = std::array::from_fn(|slot| planes >> slot & 1);
+                self.setup(Header { rp_ref, ..header });
+            }
+        }
+    }
+
+    /// At each limit, past it, and refused for two or more reasons.
+    fn setup_refusals(&mut self) {
+        let accepted = cases::setup::at_limits().into_iter();
+        let accepted = accepted.map(|header| (0, header));
+        let refused = cases::setup::past_limits().into_iter();
+        let refused = refused.chain(cases::setup::refused_twice());
+        for (number, header) in accepted.chain(refused) {
+            let refusal = self.setup(header).refusal;
+            assert_eq!(refusal, number, "not the scope's refusal: {header:?}");
+        }
+    }
+}
+
+/// The header as the list has it, both numbers, and the fields that differ.
+fn setup_difference(header: &Header, setup: &Setup, wanted: &Setup) -> String {
+    let mut text = format!(
+        "{}: library {}, expected {}",
+        fields::text(fields::header(header)),
+        setup.refusal,
+        wanted.refusal
+    );
+    let pairs = fields::frame(&setup.frame).into_iter();
+    let pairs = pairs.zip(fields::frame(&wanted.frame));
+    for ((name, ours), (_, theirs)) in pairs.filter(|(ours, theirs)| ours != theirs) {
+        text += &format!("; {name} {ours:?}, expected {theirs:?}");
+    }
+    text
 }

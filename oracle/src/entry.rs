@@ -1,9 +1,108 @@
 //! The library's entries, as include/refmvs.h declares them.
 
-#[derive(Clone, Copy)]
+#[derive(Clone, Copy, Debug, Default, PartialEq)]
 #[repr(C)]
 pub struct OrderHint {
     pub value: u8,
+}
+
+#[derive(Clone, Copy, Debug, Default, PartialEq)]
+#[repr(C)]
+pub struct Slot {
+    pub value: u8,
+}
+
+#[derive(Clone, Copy, Debug, Default, PartialEq)]
+#[repr(C)]
+pub struct Saved {
+    pub ref_poc: [OrderHint; 7],
+    pub refcnt: u8,
+}
+
+#[derive(Clone, Copy, Debug, Default, PartialEq)]
+#[repr(C)]
+pub struct Header {
+    pub order_hint_n_bits: u32,
+    pub width: u32,
+    pub height: u32,
+    pub n_ref_frames: u32,
+    pub tip: u8,
+    pub sb128: u8,
+    pub tmvp_sample_step: u8,
+    pub use_ref_frame_mvs: u8,
+    pub has_bothside_refs: u8,
+    pub tip_frame_mode: u8,
+    pub tip_reference: [i8; 2],
+    pub frame_offset: OrderHint,
+    pub ref_poc: [OrderHint; 7],
+    pub saved: [Saved; 7],
+    pub rp_ref: [u8; 7],
+}
+
+#[derive(Clone, Copy, Debug, Default, PartialEq)]
+#[repr(C)]
+pub struct Source {
+    pub reference: Slot,
+    pub tgt: i8,
+    pub dir: u8,
+    pub ref2cur: i8,
+    pub ref2ref: [i8; 7],
+    pub ref2idx: [i8; 7],
+    pub ref2sf0: [i32; 7],
+    pub ref2sf1: [i32; 7],
+}
+
+#[derive(Clone, Copy, Debug, Default, PartialEq)]
+#[repr(C)]
+pub struct Tip {
+    pub delta: i8,
+    pub sf: [i32; 2],
+}
+
+#[derive(Clone, Copy, Debug, Default, PartialEq)]
+#[repr(C)]
+pub struct Sources {
+    pub mfmv: [Source; 4],
+    pub n_mfmvs: usize,
+    pub mfmv_mask: u8,
+}
+
+#[derive(Clone, Copy, Debug, Default, PartialEq)]
+#[repr(C)]
+pub struct Frame {
+    pub width: u32,
+    pub height: u32,
+    pub sb128: u8,
+    pub tmvp_sample_step: u8,
+    pub n_ref_frames: usize,
+    pub tip_frame_mode: u8,
+    pub tip_reference: [i8; 2],
+    pub rp_ref: [u8; 7],
+    pub ref_sign: [u8; 7],
+    pub pocdiff: [i8; 7],
+    pub abspocdiff: [u8; 7],
+    pub ref_flip: u64,
+    pub tip: Tip,
+    pub use_ref_frame_mvs: u8,
+    pub sources: Sources,
+}
+
+#[derive(Clone, Copy, Debug, Default, PartialEq)]
+#[repr(C)]
+pub struct Setup {
+    pub refusal: u32,
+    pub frame: Frame,
+}
+
+impl Setup {
+    pub fn accepted(frame: Frame) -> Self {
+        Self { refusal: 0, frame }
+    }
+
+    pub fn refused(refusal: u32) -> Self {
+        let frame = Frame::default();
+        Self { refusal, frame }
+    }
 }
 
 pub type MvProjection = unsafe extern "C" fn(i32, i32, i32, i32, i32, i32, *mut i32) -> u32;
@@ -11,6 +110,7 @@ pub type ScaleMv = unsafe extern "C" fn(i32, i32, i32, *mut i32) -> u32;
 pub type QuantizeMv = unsafe extern "C" fn(i32, i32, *mut i8) -> u32;
 pub type DequantizeMv = unsafe extern "C" fn(i8, i8, *mut i32) -> u32;
 pub type GetPocDiff = unsafe extern "C" fn(u32, OrderHint, OrderHint, *mut i32) -> u32;
+pub type InitFrame = unsafe extern "C" fn(Header) -> Setup;
 
 unsafe extern "C" {
     pub fn refmvs_mv_projection(
@@ -31,4 +131,5 @@ unsafe extern "C" {
         poc1: OrderHint,
         out: *mut i32,
     ) -> u32;
+    pub fn refmvs_init_frame(header: Header) -> Setup;
 }

@@ -11,6 +11,7 @@ pub mod cases;
 pub mod compare;
 pub mod entry;
 pub mod expected;
+pub mod fields;
 pub mod reference;
 pub mod rng;
 pub mod shim;

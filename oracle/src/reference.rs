@@ -2,6 +2,9 @@
 use crate::levels::{INVALID_MV, Mv};
 use crate::refmvs::{self, QMv, SnglMvBlock};
 
+mod setup;
+pub use setup::{Decoder, init_frame};
+
 pub const EMPTY_Y: i32 = INVALID_MV;
 
 fn comps(mv: Mv) -> [i32; 2] {

@@ -3,12 +3,27 @@
 //! # Safety
 //! `out` points to the buffer that the entry's declaration in include/refmvs.h asks for.
 #![allow(clippy::missing_safety_doc)]
-use crate::entry::OrderHint;
-use crate::reference;
+use std::cell::RefCell;
+
+use crate::entry::{Frame, Header, OrderHint, Setup};
+use crate::reference::{self, Decoder};
+
+thread_local! {
+    static DECODER: RefCell<Decoder> = RefCell::default();
+}
+
+/// The setup over a frame that is used again and again. It takes the header over, zeroes the entries
+/// that may stay unwritten and hands the record out, a few per cent in all; nothing is allocated.
+fn reused_frame(header: &Header) -> Frame {
+    DECODER.with_borrow_mut(|decoder| {
+        decoder.clear();
+        decoder.init_frame(header)
+    })
+}
 
 /// The same with the scope's refusals tested first, as a caller with unchosen input has to run them.
 pub mod tested {
-    use crate::entry::OrderHint;
+    use crate::entry::{Header, OrderHint, Setup};
     use crate::expected::{self, Answer};
 
     /// Writes an answer, or answers the refusal's number and writes nothing.
@@ -64,6 +79,14 @@ pub mod tested {
             )
         }
     }
+
+    #[inline(never)]
+    pub unsafe extern "C" fn init_frame(header: Header) -> Setup {
+        match expected::setup_refusal(&header) {
+            Some(number) => Setup::refused(number),
+            None => Setup::accepted(super::reused_frame(&header)),
+        }
+    }
 }
 
 #[inline(never)]
@@ -108,4 +131,9 @@ pub unsafe extern "C" fn get_poc_diff(
 ) -> u32 {
     unsafe { *out = reference::get_poc_diff(order_hint_n_bits, poc0.value, poc1.value) };
     0
+}
+
+#[inline(never)]
+pub unsafe extern "C" fn init_frame(header: Header) -> Setup {
+    Setup::accepted(reused_frame(&header))
 }

@@ -1,5 +1,5 @@
 -- The difference of two order hints (01 "Order hint and slot"; refusal 3). Assumes nothing.
-use mathlib.Core.Bool.{Bool, cond}
+use mathlib.Core.Bool.{cond}
 use Prim.Native.Nat.{ℕ, _+_, _-_, _%_, _^_}
 use lib.Dec.{ltb}
 use lib.IntN.{ℤ, pos, negsuc, _-ℤ_}
@@ -8,7 +8,7 @@ use Rattle.levels.specs.declared.OrderHint.{OrderHint}
 use Rattle.env.specs.declared.PocDiff.{PocDiff}
 use Rattle.env.specs.declared.PocDiff.the-variants.{Diff, TooManyBits}
 
--- z modulo m: of 0 .. m - 1, the one that differs from z by a multiple of m. negsuc a is -(a + 1), and so (m - 1) - a but for m
+-- z modulo m: of 0 .. m - 1, the one that differs from z by a multiple of m. negsuc a is -(a + 1) = (m - 1) - a - m, so the remainder is (m - 1) - a % m
 abbrev pub modZ : ℤ → ℕ → ℕ
 modZ (pos a) m = a % m
 modZ (negsuc a) m = (m - 1) - a % m

@@ -16,6 +16,7 @@ pub struct QMv {
 }
 
 // A reference slot (01's term slot), 0 to 6: who takes one tests it. It is no order hint.
+#[repr(C)]
 pub struct Slot(pub u8);
 
 // An order hint (01's term), 0 to 255. It is no slot.

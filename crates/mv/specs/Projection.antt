@@ -1,6 +1,7 @@
 -- Projection and scaling of a vector (01 "Vector"; refusal 1). Assumes nothing.
 use mathlib.Core.Bool.{Bool, cond, _||_}
-use Prim.Native.Nat.{ℕ, _/_}
+use mathlib.Core.List.{List, [], _∷_}
+use Prim.Native.Nat.{ℕ, zero, suc, _/_}
 use lib.Dec.{ltb}
 use lib.IntN.{ℤ, pos, negsuc, natAbs, _*ℤ_}
 use lib.Signed.{ltZ}
@@ -12,6 +13,15 @@ use Rattle.levels.specs.Answer.{Said, answered, refused}
 -- entry d of the reciprocal table DIV_MULT: the whole part of 16384 / d, which is 0 for d = 0
 unfoldable pub reciprocal : ℕ → ℕ
 reciprocal d = 16384 / d
+
+-- the reciprocals of n numbers from d on
+abbrev pub reciprocalsFrom : ℕ → ℕ → List ℕ
+reciprocalsFrom zero d = []
+reciprocalsFrom (suc n) d = reciprocal d ∷ reciprocalsFrom n (suc d)
+
+-- the whole table: the reciprocals of 0 to 31
+unfoldable pub reciprocals : List ℕ
+reciprocals = reciprocalsFrom 32 0
 
 -- num clipped to -31..31, times the reciprocal of den clipped to 1..31
 unfoldable pub projectionFactor : ℤ → ℤ → ℤ

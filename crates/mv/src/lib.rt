@@ -7,7 +7,7 @@ ghost use Rattle.intops.specs.Choice.{withSign};
 ghost use Rattle.intops.specs.Bounds.{Within};
 ghost use Rattle.intops.specs.Rounding.{roundDiv};
 ghost use Rattle.levels.specs.Answer.{says};
-ghost use Rattle.mv.specs.Projection.{pastRange, reciprocal, projectionFactor, scaledBy, scaledVector, mvProjection, scaleMv};
+ghost use Rattle.mv.specs.Projection.{pastRange, reciprocal, reciprocals, projectionFactor, scaledBy, scaledVector, mvProjection, scaleMv};
 ghost use Rattle.mv.specs.Packing.{packCode, unpackMag, packed, unpacked};
 ghost use Rattle.mv.specs.Averages.{smoothed, gapMean, SumOf, Averaged};
 use levels::Mv;
@@ -50,20 +50,28 @@ const DIV_MULT: [u16; 32] = [
     528,
 ];
 
-pub fn div_mult(d: usize) -> u16
-    requires { ⌜ d < 32 ⌝ }
+// The table, for a caller to lend: a constant array is built anew at each use.
+pub fn div_mult_table() -> [u16; 32]
+    ensures { λ r. ⌜ r ≡ reciprocals ⌝ }
+{
+    DIV_MULT
+}
+
+pub fn div_mult(table: &[u16; 32], d: usize) -> u16
+    requires { ⌜ (d < 32) × (now table ≡ reciprocals) ⌝ }
     ensures { λ r. ⌜ r ≡ reciprocal d ⌝ }
 {
-    DIV_MULT[d]
+    table[d]
 }
 
 // num / den as a multiple of 1/16384, num clipped to -31..31 and den to 1..31.
-pub fn projection_factor(num: i32, den: i32) -> i32
+pub fn projection_factor(table: &[u16; 32], num: i32, den: i32) -> i32
+    requires { ⌜ now table ≡ reciprocals ⌝ }
     ensures { λ r. ⌜ r ≡ projectionFactor num den ⌝ }
 {
     let n = intops::iclip(num, -31, 31);
     let d = intops::iclip(den, 1, 31);
-    let m = div_mult(d as usize);
+    let m = div_mult(table, d as usize);
     n * (m as i32)
 }
 
@@ -103,7 +111,8 @@ pub fn mv_projection(mv: Mv, num: i32, den: i32, min: i32, max: i32) -> MvAnswer
     if max < min {
         return MvAnswer::OutOfRange;
     }
-    let sf = projection_factor(num, den);
+    let table = div_mult_table();
+    let sf = projection_factor(&table, num, den);
     MvAnswer::Vector(scale_vector(mv, sf, min, max))
 }
 

@@ -1,6 +1,13 @@
 // One function for each kind of case: the library's answer to the line's inputs, against the
 // answer that the line states.
-ghost use Prim.Native.Nat.{_≤_};
+ghost use mathlib.Core.Path.{_≡_};
+ghost use mathlib.Core.Bool.{true};
+ghost use Prim.Native.Nat.{_+_, _≤_, _<_};
+ghost use lib.IntN.{pos, negsuc, natAbs};
+ghost use lib.ListN.{length};
+ghost use Rattle.levels.specs.Answer.{says};
+ghost use Rattle.env.specs.Hints.{saysDiff};
+ghost use Rattle.replay.specs.Judged.{WhenTrue, WhenAgrees, vectorAt, Inside, All32, Is32, Stated, DiffStated, ProjectAgrees, ScaleAgrees, QuantizeAgrees, DequantizeAgrees, HintAgrees, SmoothAgrees, GapAgrees};
 ghost use Rattle.mv.specs.Averages.{SumOf};
 use env::PocDiff;
 use levels::Mv;
@@ -15,7 +22,9 @@ pub enum Verdict {
     NotACase,
 }
 
-fn verdict_of(agrees: bool) -> Verdict {
+fn verdict_of(agrees: bool) -> Verdict
+    ensures { λ r. ⌜ WhenAgrees r (agrees ≡ true) ⌝ }
+{
     if agrees {
         Verdict::Agrees
     } else {
@@ -23,13 +32,24 @@ fn verdict_of(agrees: bool) -> Verdict {
     }
 }
 
-fn all_within(numbers: &[i64], low: i64, high: i64) -> bool {
+pub fn within(v: i64, low: i64, high: i64) -> bool
+    ensures { λ r. ⌜ WhenTrue r (Inside low high v) ⌝ }
+{
+    if v < low {
+        return false;
+    }
+    if high < v {
+        return false;
+    }
+    true
+}
+
+fn all_i32(numbers: &[i64]) -> bool
+    ensures { λ r. ⌜ WhenTrue r (All32 (now (numbers .entry))) ⌝ }
+{
     let mut i = 0;
     while i < numbers.len() {
-        if numbers[i] < low {
-            return false;
-        }
-        if high < numbers[i] {
+        if !within(numbers[i], -2147483648, 2147483647) {
             return false;
         }
         i += 1;
@@ -37,16 +57,16 @@ fn all_within(numbers: &[i64], low: i64, high: i64) -> bool {
     true
 }
 
-fn all_i32(numbers: &[i64]) -> bool {
-    all_within(numbers, -2147483648, 2147483647)
-}
-
 // The casts below clip, so that they are total; each number is tested before.
-fn to_i32(v: i64) -> i32 {
+fn to_i32(v: i64) -> i32
+    ensures { λ r. ⌜ (Is32 v → r ≡ v) ⌝ }
+{
     intops::iclip64to32(v, -2147483648, 2147483647)
 }
 
-fn to_i8(v: i64) -> i8 {
+pub fn to_i8(v: i64) -> i8
+    ensures { λ r. ⌜ (Inside (negsuc 127) (pos 127) v → r ≡ v) ⌝ }
+{
     if v < -128 {
         -128
     } else if 127 < v {
@@ -56,7 +76,9 @@ fn to_i8(v: i64) -> i8 {
     }
 }
 
-fn to_u32(v: i64) -> u32 {
+pub fn to_u32(v: i64) -> u32
+    ensures { λ r. ⌜ (Inside (pos 0) (pos 4294967295) v → r ≡ natAbs v) ⌝ }
+{
     if v < 0 {
         0
     } else if 4294967295 < v {
@@ -66,7 +88,9 @@ fn to_u32(v: i64) -> u32 {
     }
 }
 
-fn to_u8(v: i64) -> u8 {
+pub fn to_u8(v: i64) -> u8
+    ensures { λ r. ⌜ (Inside (pos 0) (pos 255) v → r ≡ natAbs v) ⌝ }
+{
     if v < 0 {
         0
     } else if 255 < v {
@@ -76,94 +100,157 @@ fn to_u8(v: i64) -> u8 {
     }
 }
 
-fn compare_mv(answer: MvAnswer, refusal: i64, y: i32, x: i32) -> Verdict {
+// The answer's refusal number and vector, against the line's.
+fn compare(number: i64, v: Mv, refusal: i64, stated: Mv) -> Verdict
+    ensures { λ r. ⌜ WhenAgrees r ((refusal ≡ number) × (stated ≡ v)) ⌝ }
+{
+    if number != refusal {
+        return Verdict::Differs;
+    }
+    if v.y != stated.y {
+        return Verdict::Differs;
+    }
+    if v.x != stated.x {
+        return Verdict::Differs;
+    }
+    Verdict::Agrees
+}
+
+fn compare_mv(answer: MvAnswer, refusal: i64, stated: Mv) -> Verdict
+    ensures { λ r. ⌜ WhenAgrees r (Stated (says answer) refusal stated) ⌝ }
+{
     match answer {
-        MvAnswer::Vector(v) => { verdict_of((refusal == 0) & (v.y == y) & (v.x == x)) }
-        MvAnswer::OutOfRange => verdict_of((refusal == 1) & (y == 0) & (x == 0)),
-        MvAnswer::HalfMark => verdict_of((refusal == 2) & (y == 0) & (x == 0)),
+        MvAnswer::Vector(v) => compare(0, v, refusal, stated),
+        MvAnswer::OutOfRange => compare(1, Mv { y: 0, x: 0 }, refusal, stated),
+        MvAnswer::HalfMark => compare(2, Mv { y: 0, x: 0 }, refusal, stated),
     }
 }
 
-pub fn judge_project(n: &[i64]) -> Verdict {
+// The vector of the numbers k and k + 1.
+fn vector_at(n: &[i64], k: usize) -> Mv
+    requires { ⌜ k + 1 < length (now n) ⌝ }
+    ensures { λ r. ⌜ (All32 (now (n .entry)) → r ≡ vectorAt (now (n .entry)) k) ⌝ }
+{
+    let y = to_i32(n[k]);
+    let x = to_i32(n[k + 1]);
+    Mv { y, x }
+}
+
+pub fn judge_project(n: &[i64]) -> Verdict
+    ensures { λ r. ⌜ WhenAgrees r (ProjectAgrees (now (n .entry))) ⌝ }
+{
     if n.len() != 9 {
         return Verdict::NotACase;
     }
     if !all_i32(n) {
         return Verdict::NotACase;
     }
-    let y = to_i32(n[0]);
-    let x = to_i32(n[1]);
+    let mv = vector_at(n, 0);
     let num = to_i32(n[2]);
     let den = to_i32(n[3]);
     let min = to_i32(n[4]);
     let max = to_i32(n[5]);
-    let answer = mv::mv_projection(Mv { y, x }, num, den, min, max);
-    compare_mv(answer, n[6], to_i32(n[7]), to_i32(n[8]))
+    let answer = mv::mv_projection(mv, num, den, min, max);
+    compare_mv(answer, n[6], vector_at(n, 7))
 }
 
-pub fn judge_scale(n: &[i64]) -> Verdict {
+pub fn judge_scale(n: &[i64]) -> Verdict
+    ensures { λ r. ⌜ WhenAgrees r (ScaleAgrees (now (n .entry))) ⌝ }
+{
     if n.len() != 6 {
         return Verdict::NotACase;
     }
     if !all_i32(n) {
         return Verdict::NotACase;
     }
-    let y = to_i32(n[0]);
-    let x = to_i32(n[1]);
-    let answer = mv::scale_mv(Mv { y, x }, to_i32(n[2]));
-    compare_mv(answer, n[3], to_i32(n[4]), to_i32(n[5]))
+    let sf = to_i32(n[2]);
+    let answer = mv::scale_mv(vector_at(n, 0), sf);
+    compare_mv(answer, n[3], vector_at(n, 4))
 }
 
-pub fn judge_quantize(n: &[i64]) -> Verdict {
+pub fn judge_quantize(n: &[i64]) -> Verdict
+    ensures { λ r. ⌜ WhenAgrees r (QuantizeAgrees (now (n .entry))) ⌝ }
+{
     if n.len() != 4 {
         return Verdict::NotACase;
     }
     if !all_i32(n) {
         return Verdict::NotACase;
     }
-    if !all_within(&n[2..4], -128, 127) {
+    if !within(n[2], -128, 127) {
         return Verdict::NotACase;
     }
-    let y = to_i32(n[0]);
-    let x = to_i32(n[1]);
-    let q = mv::quantize_mv(Mv { y, x });
-    verdict_of((q.y == to_i8(n[2])) & (q.x == to_i8(n[3])))
+    if !within(n[3], -128, 127) {
+        return Verdict::NotACase;
+    }
+    let q = mv::quantize_mv(vector_at(n, 0));
+    if q.y != to_i8(n[2]) {
+        return Verdict::Differs;
+    }
+    if q.x != to_i8(n[3]) {
+        return Verdict::Differs;
+    }
+    Verdict::Agrees
 }
 
-pub fn judge_dequantize(n: &[i64]) -> Verdict {
+pub fn judge_dequantize(n: &[i64]) -> Verdict
+    ensures { λ r. ⌜ WhenAgrees r (DequantizeAgrees (now (n .entry))) ⌝ }
+{
     if n.len() != 5 {
         return Verdict::NotACase;
     }
     if !all_i32(n) {
         return Verdict::NotACase;
     }
-    if !all_within(&n[0..2], -128, 127) {
+    if !within(n[0], -128, 127) {
+        return Verdict::NotACase;
+    }
+    if !within(n[1], -128, 127) {
         return Verdict::NotACase;
     }
     let y = to_i8(n[0]);
     let x = to_i8(n[1]);
     let answer = mv::dequantize_mv(QMv { y, x });
-    compare_mv(answer, n[2], to_i32(n[3]), to_i32(n[4]))
+    compare_mv(answer, n[2], vector_at(n, 3))
 }
 
-fn compare_hint(answer: PocDiff, refusal: i64, diff: i32) -> Verdict {
+fn compare_diff(number: i64, d: i32, refusal: i64, stated: i32) -> Verdict
+    ensures { λ r. ⌜ WhenAgrees r ((refusal ≡ number) × (stated ≡ d)) ⌝ }
+{
+    if number != refusal {
+        return Verdict::Differs;
+    }
+    if d != stated {
+        return Verdict::Differs;
+    }
+    Verdict::Agrees
+}
+
+fn compare_hint(answer: PocDiff, refusal: i64, stated: i32) -> Verdict
+    ensures { λ r. ⌜ WhenAgrees r (DiffStated (saysDiff answer) refusal stated) ⌝ }
+{
     match answer {
-        PocDiff::Diff(d) => verdict_of((refusal == 0) & (d == diff)),
-        PocDiff::TooManyBits => verdict_of((refusal == 3) & (diff == 0)),
+        PocDiff::Diff(d) => compare_diff(0, d, refusal, stated),
+        PocDiff::TooManyBits => compare_diff(3, 0, refusal, stated),
     }
 }
 
-pub fn judge_hint(n: &[i64]) -> Verdict {
+pub fn judge_hint(n: &[i64]) -> Verdict
+    ensures { λ r. ⌜ WhenAgrees r (HintAgrees (now (n .entry))) ⌝ }
+{
     if n.len() != 5 {
         return Verdict::NotACase;
     }
-    if !all_within(&n[0..1], 0, 4294967295) {
+    if !within(n[0], 0, 4294967295) {
         return Verdict::NotACase;
     }
-    if !all_within(&n[1..3], 0, 255) {
+    if !within(n[1], 0, 255) {
         return Verdict::NotACase;
     }
-    if !all_i32(&n[3..5]) {
+    if !within(n[2], 0, 255) {
+        return Verdict::NotACase;
+    }
+    if !within(n[4], -2147483648, 2147483647) {
         return Verdict::NotACase;
     }
     let a = to_u8(n[1]);
@@ -175,7 +262,7 @@ pub fn judge_hint(n: &[i64]) -> Verdict {
 // The count of cells of an average, 1 to 5, or 0 where n is no such count or the sum is not one of
 // n components.
 fn cells_of(n: i64, sum: i64) -> usize
-    ensures { λ r. ⌜ (r ≤ 5) × (1 ≤ r → SumOf r sum) ⌝ }
+    ensures { λ r. ⌜ (r ≤ 5) × (1 ≤ r → SumOf r sum × (r ≡ natAbs n)) ⌝ }
 {
     if n < 1 {
         return 0;
@@ -192,7 +279,9 @@ fn cells_of(n: i64, sum: i64) -> usize
     n as usize
 }
 
-pub fn judge_smooth(n: &[i64]) -> Verdict {
+pub fn judge_smooth(n: &[i64]) -> Verdict
+    ensures { λ r. ⌜ WhenAgrees r (SmoothAgrees (now (n .entry))) ⌝ }
+{
     if n.len() != 3 {
         return Verdict::NotACase;
     }
@@ -201,13 +290,15 @@ pub fn judge_smooth(n: &[i64]) -> Verdict {
     if cells == 0 {
         return Verdict::NotACase;
     }
-    if !all_i32(&n[2..3]) {
+    if !within(n[2], -2147483648, 2147483647) {
         return Verdict::NotACase;
     }
     verdict_of(mv::smooth_average(sum, cells) == to_i32(n[2]))
 }
 
-pub fn judge_gap(n: &[i64]) -> Verdict {
+pub fn judge_gap(n: &[i64]) -> Verdict
+    ensures { λ r. ⌜ WhenAgrees r (GapAgrees (now (n .entry))) ⌝ }
+{
     if n.len() != 3 {
         return Verdict::NotACase;
     }
@@ -219,7 +310,7 @@ pub fn judge_gap(n: &[i64]) -> Verdict {
     if 4 < cells {
         return Verdict::NotACase;
     }
-    if !all_i32(&n[2..3]) {
+    if !within(n[2], -2147483648, 2147483647) {
         return Verdict::NotACase;
     }
     verdict_of(mv::gap_average(sum, cells) == to_i32(n[2]))

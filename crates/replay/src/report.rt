@@ -4,18 +4,21 @@ use crate::read;
 use crate::read::State;
 use libc::STDOUT_FILENO;
 
-fn print_name(kind: u8) {
+fn print_name(kind: usize) {
     let mut name = [0u8; 16];
     let n = kinds::put_name(kind, &mut name);
     io::write_all(STDOUT_FILENO, &name[..n]);
 }
 
-fn tally(tallies: &[u64], kind: u8) -> u64 {
-    let k = kind as usize;
-    if k < tallies.len() { tallies[k] } else { 0 }
+fn tally(tallies: &[u64], kind: usize) -> u64 {
+    if kind < tallies.len() {
+        tallies[kind]
+    } else {
+        0
+    }
 }
 
-fn print_kind(kind: u8, agreed: u64) {
+fn print_kind(kind: usize, agreed: u64) {
     print_name(kind);
     io::write_all(STDOUT_FILENO, b": ");
     io::print_decimal(STDOUT_FILENO, agreed);

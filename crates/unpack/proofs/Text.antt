@@ -14,9 +14,11 @@ use Rattle.io.specs.Counts.{Counts}
 use Rattle.intops.specs.Choice.{eqZ}
 use Rattle.levels.specs.Answer.{Said, answered, refused}
 use Rattle.levels.specs.declared.Mv.{Mv}
-use Rattle.mv.specs.Packing.{unpacked}
+use Rattle.intops.specs.Bits.{highestBit, highestFrom}
+use Rattle.mv.specs.Packing.{unpacked, unpackMag, firstWith, packCode}
+use Rattle.unpack.specs.Decimal.{decimal, natural, naturalIn}
 use Rattle.unpack.specs.Put.{Put}
-use Rattle.unpack.specs.Text.{pairLine, emptyLine, shortLine, refusedLine, numbersLine, lineOf, signedByte, text, InParts}
+use Rattle.unpack.specs.Text.{pairLine, emptyLine, shortLine, refusedLine, numbersLine, lineOf, signedByte, text, InParts, Example}
 
 pub in-parts : InParts
 unfolding text
@@ -25,6 +27,10 @@ in-parts zero (x ∷ a) b e = absurd (omega arith)
 in-parts (suc k) [] b e = absurd (omega arith)
 in-parts (suc k) (x ∷ []) b e = absurd (omega arith)
 in-parts (suc k) (y ∷ x ∷ a) b e = rw (in-parts k a b (omega arith), append-assoc)
+
+pub example : Example
+unfolding text pairLine lineOf numbersLine decimal natural naturalIn unpackMag firstWith packCode highestBit highestFrom
+example = refl
 
 -- the text from a pair on
 pub text-pair : (l : List ℕ) (i : ℕ) → i + 1 < length l → text (drop i l) ≡ pairLine (getD l i 0) (getD l (i + 1) 0) ++ text (drop (i + 2) l)

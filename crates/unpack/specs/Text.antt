@@ -56,3 +56,9 @@ text (y ∷ x ∷ rest) = pairLine y x ++ text rest
 -- the text of an input is that of its parts, where each part but the last has whole pairs: so the program may take it in parts of an even size
 abbrev pub InParts : Type 0
 InParts = (pairs : ℕ) (a b : List ℕ) → length a ≡ 2 * pairs → text (a ++ b) ≡ text a ++ text b
+
+-- hex 05 E0 80 80 80 00 prints `5 -32`, `empty`, `refused 2`
+abbrev pub Example : Type 0
+Example =
+    text (0x05 ∷ 0xE0 ∷ 0x80 ∷ 0x80 ∷ 0x80 ∷ 0x00 ∷ [])
+    ≡ (53 ∷ 32 ∷ 45 ∷ 51 ∷ 50 ∷ 10 ∷ []) ++ emptyLine ++ (114 ∷ 101 ∷ 102 ∷ 117 ∷ 115 ∷ 101 ∷ 100 ∷ 32 ∷ 50 ∷ 10 ∷ [])

@@ -20,8 +20,15 @@ in-range c = sym (c .before .past-range .ensures) ∙ c .if1 .left
 not-crossed : (c : tie.Else2) → ltZ (c .before .before .before .args .max) (c .before .before .before .args .min) ≡ false
 not-crossed c = let s = c .before .before .before in let u = s .fits .max in let l = s .fits .min in simp back at (c .if2 .left)
 
-factor-is : (c : tie.After-projection-factor) → let a = c .before .before .before .before .args in c .projection-factor .result ≡ projectionFactor (a .num) (a .den)
-factor-is c = let s = c .before .before .before .before in let f = s .fits .num in let g = s .fits .den in simp back at (c .projection-factor .ensures)
+-- where the tests are passed, and where the function begins
+abbrev tested : tie.After-projection-factor → tie.Else2
+tested c = c .before .before .before
+
+abbrev start : tie.After-projection-factor → tie.Start
+start c = tested c .before .before .before
+
+factor-is : (c : tie.After-projection-factor) → let a = start c .args in c .projection-factor .result ≡ projectionFactor (a .num) (a .den)
+factor-is c = let s = start c in let f = s .fits .num in let g = s .fits .den in simp back at (c .projection-factor .ensures)
 
 past-range-requires : tie.Need-past-range-requires
 past-range-requires c κs = search needs
@@ -35,23 +42,26 @@ returns-2 c =
     let t : ltZ (s .args .max) (s .args .min) ≡ true = simp back at (c .if2 .taken) in
     rw (in-range (c .before), t)
 
+div-mult-table-requires : tie.Need-div-mult-table-requires
+div-mult-table-requires c κs = search needs
+
 projection-factor-requires : tie.Need-projection-factor-requires
-projection-factor-requires c κs = search needs
+projection-factor-requires c κs = c .before .div-mult-table .ensures
 
 scale-vector-requires : tie.Need-scale-vector-requires
 scale-vector-requires c κs =
-    let a = c .before .before .before .before .args in
+    let a = start c .args in
     let f : SFits w32 (c .projection-factor .result) = search needs in
     simp back (rw (factor-is c) (factor-within (a .num) (a .den)))
 
 returns-3 : tie.Need-returns-3
 returns-3 c =
-    let p = c .before in let s = p .before .before .before .before in let a = s .args in
+    let p = c .before in let s = start p in let a = s .args in
     let u = s .fits .max in let l = s .fits .min in
     let f : SFits w32 (p .projection-factor .result) = search needs in
     let e = simp back at (c .scale-vector .ensures) in
-    rw (in-range (p .before .before), not-crossed (p .before))
+    rw (in-range (tested p .before), not-crossed (tested p))
     (ap answered (e ∙ ap (λ (z : ℤ). scaledVector z (a .min) (a .max) (a .mv)) (factor-is p)))
 
 pub mv-projection-spec : {M : Type 1} → statement M
-mv-projection-spec = tie.close (tie.spec past-range-requires returns returns-2 projection-factor-requires scale-vector-requires returns-3)
+mv-projection-spec = tie.close (tie.spec past-range-requires returns returns-2 div-mult-table-requires projection-factor-requires scale-vector-requires returns-3)

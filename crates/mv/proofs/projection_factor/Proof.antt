@@ -35,7 +35,7 @@ cast-div-mult : tie.Need-cast-div-mult
 cast-div-mult c = let f = d-fits c in let h = d-within c in simp back (omega (signed, ud (d c)))
 
 div-mult-requires : tie.Need-div-mult-requires
-div-mult-requires c κs = let f = d-fits c in let h = d-within c in simp back (omega (signed, ud (d c)))
+div-mult-requires c κs = let f = d-fits c in let h = d-within c in (simp back (omega (signed, ud (d c))), c .before .before .pre)
 
 cast-result : tie.Need-cast-result
 cast-result c = search needs

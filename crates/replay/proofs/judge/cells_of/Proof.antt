@@ -1,6 +1,6 @@
 -- `replay::judge::cells_of` meets its contract: what it answers meets what the averages require. Assumes nothing.
 use mathlib.Core.Bool.{false}
-use mathlib.Core.Path.{_≡_}
+use mathlib.Core.Path.{_≡_, refl}
 use Prim.Native.Nat.{ℕ, _*_, _≤_}
 use lib.IntN.{ℤ, pos, natAbs, _-ℤ_, _*ℤ_}
 use lib.Signed.{ltZ}
@@ -28,14 +28,14 @@ product n k w l =
     let p = within-mul w (within-pos {m = k} {n = 2147483648} l) in (fits-within w64 tt p, fits-within w64 tt (within-sub (within-pos {m = 0} {n = 0} (omega signed)) p))
 
 -- a refusal answers 0
-none : (sum : ℤ) → (0 ≤ 5) × (1 ≤ 0 → SumOf 0 sum)
-none sum = (omega signed, λ h. absurd (omega signed))
+none : (n sum : ℤ) → (0 ≤ 5) × (1 ≤ 0 → SumOf 0 sum × (0 ≡ natAbs n))
+none n sum = (omega signed, λ h. absurd (omega signed))
 
 returns : tie.Need-returns
-returns c = none (c .before .args .sum)
+returns c = none (c .before .args .n) (c .before .args .sum)
 
 returns-2 : tie.Need-returns-2
-returns-2 c = none (c .before .before .args .sum)
+returns-2 c = none (c .before .before .args .n) (c .before .before .args .sum)
 
 -- n's range, at the place after its two tests
 five : (c : tie.Else2) → SFits w64 (c .before .before .args .n) × Within 5 (c .before .before .args .n)
@@ -49,13 +49,13 @@ sub-if3 : tie.Need-sub-if3
 sub-if3 c = let (f, w) = five c in let (p, m) = product (c .before .before .args .n) 2147483648 w (omega signed) in simp back m
 
 returns-3 : tie.Need-returns-3
-returns-3 c = none (c .before .before .before .args .sum)
+returns-3 c = none (c .before .before .before .args .n) (c .before .before .before .args .sum)
 
 mul-if4 : tie.Need-mul-if4
 mul-if4 c = let (f, w) = five (c .before) in simp back (product (c .before .before .before .args .n) 2147483647 w (omega signed) .0)
 
 returns-4 : tie.Need-returns-4
-returns-4 c = none (c .before .before .before .before .args .sum)
+returns-4 c = none (c .before .before .before .before .args .n) (c .before .before .before .before .args .sum)
 
 cast-result : tie.Need-cast-result
 cast-result c = let s = c .before .before .before .before in let (f, w) = five (c .before .before) in let h = simp back at (c .before .before .before .if1 .left) in simp back (omega (signed, ud (s .args .n), w .within))
@@ -68,7 +68,7 @@ returns-5 c =
     let (f, w) = five b in
     let (p, m) = product (s .args .n) 2147483648 w (omega signed) in
     let (q, k) = product (s .args .n) 2147483647 w (omega signed) in
-    simp back (w .within, λ _. sum-of (s .args .n) (s .args .sum) (simp back at (b .before .if1 .left)) (simp back at (c .before .if3 .left)) (simp back at (c .if4 .left)))
+    simp back (w .within, λ _. (sum-of (s .args .n) (s .args .sum) (simp back at (b .before .if1 .left)) (simp back at (c .before .if3 .left)) (simp back at (c .if4 .left)), refl))
 
 pub cells-of-spec : {M : Type 1} → statement M
 cells-of-spec = tie.close (tie.spec returns returns-2 mul-if3 sub-if3 returns-3 mul-if4 returns-4 cast-result returns-5)

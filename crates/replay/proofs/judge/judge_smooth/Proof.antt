@@ -1,11 +1,15 @@
--- `replay::judge::judge_smooth` is safe and ends. Assumes nothing.
-use Prim.Native.Nat.{_≤_}
+-- `replay::judge::judge_smooth` meets its contract: each number is in its field, so the call is on the numbers of the line, and agreeing is agreeing with the definition. Assumes nothing.
+use mathlib.Core.Path.{sym, _∙_, ap}
+use Prim.Native.Nat.{ℕ, _≤_}
 use native.Mathlib.Omega.{arith}
-use lib.IntN.{pos}
-use lib.ListN.{getD}
-use mir.Syntax.{w64}
+use mir.Syntax.{w32, w64}
 use mir.Val.{SFits}
 use borrow.Author.Needs.{needs}
+use borrow.Author.Tests.{eqb-true}
+use Rattle.intops.proofs.Signed.{same-bits, back}
+use Rattle.mv.specs.Averages.{smoothed}
+use Rattle.replay.specs.Judged.{Is32, at}
+use Rattle.replay.proofs.Judged.{when-agrees, passed}
 use Rattle.replay.proofs.judge.judge_smooth.Statement.{statement}
 use Rattle.replay.proofs.judge.judge_smooth.Tie as tie
 
@@ -24,23 +28,23 @@ cells-of-requires c κs = search needs
 returns-2 : tie.Need-returns-2
 returns-2 c = search needs
 
-sub-all-i32 : tie.Need-sub-all-i32
-sub-all-i32 c = search needs
+shared-slice-copy-out-within : tie.Need-shared-slice-copy-out-within
+shared-slice-copy-out-within c = search needs
 
-part-all-i32-start : tie.Need-part-all-i32-start
-part-all-i32-start c = search needs
-
-part-all-i32-end : tie.Need-part-all-i32-end
-part-all-i32-end c = search needs
-
-all-i32-requires : tie.Need-all-i32-requires
-all-i32-requires c κs = search needs
+within-requires : tie.Need-within-requires
+within-requires c κs = search needs
 
 returns-3 : tie.Need-returns-3
 returns-3 c = search needs
 
 smooth-average-requires : tie.Need-smooth-average-requires
-smooth-average-requires c κs = let f : SFits w64 (getD (c .before .before .before .before .before .before .before .before .args .n .now) 1 (pos 0)) = search needs in let e = c .before .before .before .before .cells-of .ensures in let one : 1 ≤ c .before .before .before .before .cells-of .result = omega arith in (one, omega arith, e .1 one)
+smooth-average-requires c κs =
+    let n = c .before .before .before .before .before .before .before .before .args .n .now in
+    let f0 : SFits w64 (at n 0) = search needs in
+    let f1 : SFits w64 (at n 1) = search needs in
+    let e = simp back at (c .before .before .before .before .cells-of .ensures) in
+    let one : 1 ≤ c .before .before .before .before .cells-of .result = omega arith in
+    simp back (one, omega arith, e .1 one .0)
 
 shared-slice-copy-out-to-i32 : tie.Need-shared-slice-copy-out-to-i32
 shared-slice-copy-out-to-i32 c = search needs
@@ -52,7 +56,19 @@ verdict-of-requires : tie.Need-verdict-of-requires
 verdict-of-requires c κs = search needs
 
 returns-4 : tie.Need-returns-4
-returns-4 c = search needs
+returns-4 c =
+    let n = c .before .before .before .before .before .before .before .before .before .before .before .before .args .n .now in
+    let f0 : SFits w64 (at n 0) = search needs in
+    let f1 : SFits w64 (at n 1) = search needs in
+    let f2 : SFits w64 (at n 2) = search needs in
+    let g : SFits w32 (c .before .to-i32 .result) = search needs in
+    let h : SFits w32 (c .before .before .before .smooth-average .result) = search needs in
+    let i : Is32 (at n 2) = passed (c .before .before .before .before .before .within .result) (c .before .before .before .before .if3 .left) (simp back at (c .before .before .before .before .before .within .ensures)) in
+    let one : 1 ≤ c .before .before .before .before .before .before .before .before .cells-of .result = omega arith in
+    let cells = (simp back at (c .before .before .before .before .before .before .before .before .cells-of .ensures)) .1 one .1 in
+    let mean = (simp back at (c .before .before .before .smooth-average .ensures)) ∙ ap (λ (k : ℕ). smoothed k (at n 1)) cells in
+    let stated = (simp back at (c .before .to-i32 .ensures)) i in
+    when-agrees (c .verdict-of .result) (λ t. sym stated ∙ sym (same-bits h g (eqb-true _ _ t)) ∙ mean) (c .verdict-of .ensures)
 
 pub judge-smooth-spec : {M : Type 1} → statement M
 judge-smooth-spec =
@@ -63,10 +79,8 @@ judge-smooth-spec =
     shared-slice-copy-out-cells-of
     cells-of-requires
     returns-2
-    sub-all-i32
-    part-all-i32-start
-    part-all-i32-end
-    all-i32-requires
+    shared-slice-copy-out-within
+    within-requires
     returns-3
     smooth-average-requires
     shared-slice-copy-out-to-i32

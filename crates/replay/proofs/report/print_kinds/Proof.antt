@@ -1,4 +1,4 @@
--- `replay::report::print_kinds` is safe and ends. The measure falls as the kind, a byte, grows. Assumes nothing.
+-- `replay::report::print_kinds` is safe and ends. The measure falls as the kind grows; the kinds are few. Assumes nothing.
 use Prim.Native.Nat.{_-_}
 use borrow.Author.Needs.{needs}
 use Rattle.replay.proofs.report.print_kinds.Statement.{statement}

@@ -1,0 +1,26 @@
+-- What a store and a fold keep. Assumes nothing.
+use mathlib.Core.Path.{_≡_, refl}
+use mathlib.Core.List.{List, [], _∷_}
+use Prim.Native.Nat.{ℕ, zero, suc, _+_, _-_, _<_, _≤_}
+use native.Mathlib.Omega.{arith}
+use lib.ListN.{getD, set}
+use Rattle.loops.specs.Over.{over, span}
+
+-- what holds of a new element and of each old one holds of each after the store
+pub set-has : {A : Type 0} (P : A → Type 0) (l : List A) (i k : ℕ) (a d : A) → P a → P (getD l k d) → P (getD (set l i a) k d)
+set-has P [] i k a d p q = q
+set-has P (x ∷ l) zero zero a d p q = p
+set-has P (x ∷ l) zero (suc k) a d p q = q
+set-has P (x ∷ l) (suc i) zero a d p q = q
+set-has P (x ∷ l) (suc i) (suc k) a d p q = set-has P l i k a d p q
+
+-- what each step below b keeps
+pub over-in : {S : Type 0} (P : S → Type 0) (f : ℕ → S → S) (b : ℕ) → ((p : ℕ) (s : S) → p < b → P s → P (f p s))
+    → (n p : ℕ) (s : S) → p + n ≤ b → P s → P (over f 1 n p s)
+unfolding over
+over-in P f b st zero p s l h = h
+over-in P f b st (suc n) p s l h = over-in P f b st n (p + 1) (f p s) (omega arith) (st p s (omega arith) h)
+
+pub span-in : {S : Type 0} (P : S → Type 0) (f : ℕ → S → S) (b : ℕ) → ((p : ℕ) (s : S) → p < b → P s → P (f p s)) → (s : S) → P s → P (span f 0 b s)
+unfolding span
+span-in P f b st s h = over-in P f b st (b - 0) 0 s (omega arith) h

@@ -1,0 +1,4 @@
+pub mod Counting
+pub mod Keeps
+pub mod Seven
+pub mod Turns

@@ -1,0 +1,1 @@
+// Loops as folds: definitions in specs/, their laws in proofs/. There is no code here.

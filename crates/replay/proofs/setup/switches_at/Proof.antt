@@ -1,0 +1,76 @@
+-- `replay::setup::switches_at` meets its contract. Assumes nothing.
+use mathlib.Core.Bool.{Bool}
+use mathlib.Core.Path.{_≡_, ap}
+use Prim.Native.Nat.{_+_, _-_, _≤_}
+use native.Mathlib.Omega.{arith}
+use lib.ListN.{set}
+use mir.Syntax.{w64}
+use mir.Val.{SFits}
+use borrow.Author.Needs.{needs}
+use Rattle.intops.proofs.Signed.{back}
+use Rattle.replay.specs.FrameCase.{turns, seven, isOn, switchesAt}
+use Rattle.replay.specs.Judged.{at}
+use Rattle.replay.proofs.FrameCase.{turned, ended, storing, filled}
+use Rattle.replay.proofs.setup.switches_at.Statement.{statement}
+use Rattle.replay.proofs.setup.switches_at.Tie as tie
+
+abbrev Inv-loop : tie.InvT-loop
+Inv-loop n k out₀ i₀ out i = (i ≤ 7) × (turns (storing (λ j. isOn (at n (k + j)))) (7 - i) i out ≡ seven (λ j. isOn (at n (k + j))))
+
+abbrev μ-loop : tie.MeasureT-loop
+μ-loop n k out₀ i₀ out i = 7 - i
+
+loop-holds : tie.Need-loop-holds Inv-loop μ-loop
+loop-holds c = (omega arith, filled _ _)
+
+add-is-on : tie.Need-add-is-on Inv-loop μ-loop
+add-is-on c = search needs
+
+mul-is-on : tie.Need-mul-is-on Inv-loop μ-loop
+mul-is-on c = search needs
+
+shared-slice-copy-out-is-on : tie.Need-shared-slice-copy-out-is-on Inv-loop μ-loop
+shared-slice-copy-out-is-on c = search needs
+
+is-on-requires : tie.Need-is-on-requires Inv-loop μ-loop
+is-on-requires c κs = search needs
+
+array-write-out : tie.Need-array-write-out Inv-loop μ-loop
+array-write-out c = search needs
+
+add-i : tie.Need-add-i Inv-loop μ-loop
+add-i c = search needs
+
+loop-less : tie.Need-loop-less Inv-loop μ-loop
+loop-less c = search needs
+
+loop-again : tie.Need-loop-again Inv-loop μ-loop
+loop-again c =
+    let s = c .before .before .before .before in
+    let l = c .before .before .before .loop in
+    let n = s .args .n .now in
+    let j = s .args .k + l .i in
+    let f : SFits w64 (at n j) = search needs in
+    let e : c .is-on .result ≡ isOn (at n j) = simp back at (c .is-on .ensures) in
+    (omega arith, turned (storing (λ i. isOn (at n (s .args .k + i)))) 7 (l .i) (l .out) _ _ (c .before .before .loop-test .taken) (ap (λ (v : Bool). set (l .out) (l .i) v) e) (l .inv .1))
+
+returns : tie.Need-returns Inv-loop μ-loop
+unfolding switchesAt
+returns c = ended _ _ _ _ _ (c .loop-test .left) (c .before .loop .inv .1)
+
+pub switches-at-spec : {M : Type 1} → statement M
+switches-at-spec =
+    tie.close
+    (tie.spec
+    Inv-loop
+    μ-loop
+    loop-holds
+    add-is-on
+    mul-is-on
+    shared-slice-copy-out-is-on
+    is-on-requires
+    array-write-out
+    add-i
+    loop-less
+    loop-again
+    returns)
