@@ -29,7 +29,7 @@ pub fn find_hint(hints: [OrderHint; 7], x: OrderHint, n: usize) -> usize
 }
 
 // The same among all seven, -1 if there is none.
-pub fn slot_of(hints: [OrderHint; 7], x: OrderHint) -> i8
+fn slot_of(hints: [OrderHint; 7], x: OrderHint) -> i8
     ensures { λ r. ⌜ r ≡ foundSlot hints x ⌝ }
 {
     let k = find_hint(hints, x, 7);
@@ -164,7 +164,7 @@ pub fn source_of(h: Pocs, p: MfmvRef, table: &[u16; 32]) -> Source
     ensures { λ r. ⌜ r ≡ sourceOf h p ⌝ }
 {
     let reference = p.reference;
-    let at = reference.0 as usize;
+    let at = levels::slot_index(reference);
     let a = h.ref_poc[at];
     let cur = env::poc_diff(h.nbits, a, h.poc);
     if intops::unsigned_abs(cur) > 31 {

@@ -1,6 +1,6 @@
 -- The leading run; that what is picked are sources in range; the straight lines of calls. Assumes nothing.
 use Rattle.env.specs.Hints.{hintDiff}
-use mathlib.Core.Path.{_≡_, refl, sym, ap, _∙_}
+use mathlib.Core.Path.{_≡_, refl}
 use mathlib.Core.Bool.{Bool, true, false, cond}
 use mathlib.Core.List.{List}
 use Prim.Native.Nat.{ℕ, zero, suc, _+_, _*_, _-_, _<_, _≤_}
@@ -10,12 +10,10 @@ use Rattle.entry.specs.Entry.{ratioZ}
 use lib.Signed.{leZ, ltZ}
 use Rattle.intops.proofs.Signed.{signed, ud}
 use Rattle.frame.specs.declared.Header.{Header}
-use mir.Val.{boolByte}
+use Rattle.loops.proofs.Counting.{byte-one}
 use borrow.Author.Tests.{leb-false, ne-eqb, ltb-false}
-use Rattle.loops.specs.Over.{span}
 use Rattle.loops.proofs.Keeps.{set-has, span-in}
 use Rattle.picks.specs.declared.Pocs.{Pocs}
-use Rattle.picks.specs.declared.MfmvRef.{MfmvRef}
 use Rattle.picks.specs.declared.Picks.{Picks}
 use Rattle.picks.specs.declared.Candidate.{Candidate}
 use Rattle.picks.specs.declared.Candidate.the-variants.{Nothing, At}
@@ -29,18 +27,19 @@ use Rattle.topo.specs.Topo.{ordered}
 use native.Mathlib.Omega.{arith}
 use lib.ListN.{getD, replicate}
 use Rattle.levels.specs.declared.Slot.{Slot}
-use Rattle.picks.specs.Picks.{noSlot, Valid, Slots, appended, offered, earlier, later, nearerEarlier, inTurn, round, neighbours, nthEarlier, nearest, bothWays, fromEnd, rest}
+use Rattle.levels.specs.Slots.{slot, slotAt}
+use Rattle.picks.specs.Picks.{Valid, Slots, appended, offered, earlier, later, nearerEarlier, inTurn, round, neighbours, nthEarlier, nearest, bothWays, fromEnd, rest}
 use Rattle.refs.specs.Refs.{linksOf, diffs, signs}
 use Rattle.frame.specs.Frame.{Fine, Pickable, leading, noPick, putTaken, started, tipPut, tipAdd, withTip, picked, tipDiff, inByte, tipWith, tipOf, slotOf, refusalOf}
 
 module _ (sg : List Bool) (xs : List Slot) (n l : ℕ) where
-  pub lead-here : l < n → getD sg (getD xs l noSlot .0) false ≡ false → l ≡ leading sg xs (n - l) l
+  pub lead-here : l < n → getD sg (slotAt xs l) false ≡ false → l ≡ leading sg xs (n - l) l
   unfolding leading
   lead-here h e =
       let k : n - l ≡ suc (n - (l + 1)) = omega arith in
       rw k (simp e)
 
-  pub lead-next : l < n → getD sg (getD xs l noSlot .0) false ≡ true → leading sg xs (n - (l + 1)) (l + 1) ≡ leading sg xs (n - l) l
+  pub lead-next : l < n → getD sg (slotAt xs l) false ≡ true → leading sg xs (n - (l + 1)) (l + 1) ≡ leading sg xs (n - l) l
   unfolding leading
   lead-next h e =
       let k : n - l ≡ suc (n - (l + 1)) = omega arith in
@@ -57,7 +56,7 @@ lead-go false a l k h = omega arith
 pub lead-le : (sg : List Bool) (xs : List Slot) (k l : ℕ) → leading sg xs k l ≤ l + k
 unfolding leading
 lead-le sg xs zero l = omega arith
-lead-le sg xs (suc k) l = lead-go (getD sg (getD xs l noSlot .0) false) (leading sg xs k (l + 1)) l k (lead-le sg xs k (l + 1))
+lead-le sg xs (suc k) l = lead-go (getD sg (slotAt xs l) false) (leading sg xs k (l + 1)) l k (lead-le sg xs k (l + 1))
 
 -- ---- the sources picked are slots, four at most
 
@@ -102,7 +101,7 @@ pub rest-fine : (d : List ℤ) (xs : List Slot) (n : ℕ) (p : Picks) → Slots 
 unfolding rest bothWays
 rest-fine d xs n p v fp =
     span-in Fine (fromEnd d xs n) n
-    (λ k q l fq. both-go (getD xs (n - 1 - k) noSlot) q (leZ (pos 0) (getD d (getD xs (n - 1 - k) noSlot .0) (pos 0))) (v (n - 1 - k)) fq)
+    (λ k q l fq. both-go (getD xs (n - 1 - k) (slot 0)) q (leZ (pos 0) (getD d (slotAt xs (n - 1 - k)) (pos 0))) (v (n - 1 - k)) fq)
     p fp
 
 pub started-none : (present : List Bool) (n : ℕ) → started present n .count ≡ 0
@@ -119,14 +118,10 @@ unfolding started
 started-fine present n =
     span-in Fine (putTaken present) n (λ k q l f. record { few = f .few; each = f .each }) _ (record { few = omega arith; each = λ k. zeros 4 k })
 
-pub byte-two : (b : Bool) → boolByte b < 2
-byte-two true = omega arith
-byte-two false = omega arith
-
 put-fine : (h : Pocs) (s t : Slot) (p : Picks) → s .0 < 7 → t .0 < 7 → p .count < 4 → Fine p → Fine (tipPut h s t p)
 unfolding tipPut
 put-fine h s t p l m c f =
-    record { few = omega arith; each = λ k. set-has Pickable (p .list) (p .count) k _ noPick (record { reference = l; low = omega signed; high = omega signed; dir = byte-two (ltZ (hintDiff (h .nbits) (hintOf h (s .0)) (hintOf h (t .0))) (pos 0)) }) (f .each k) }
+    record { few = omega arith; each = λ k. set-has Pickable (p .list) (p .count) k _ noPick (record { reference = l; low = omega signed; high = omega signed; dir = omega (arith, byte-one (ltZ (hintDiff (h .nbits) (hintOf h (s .0)) (hintOf h (t .0))) (pos 0))) }) (f .each k) }
 
 add-fine : (h : Pocs) (place : List ℕ) (a b : Slot) (p : Picks) → a .0 < 7 → b .0 < 7 → p .count < 4 → Fine p → Fine (tipAdd h place a b p)
 unfolding tipAdd
@@ -156,7 +151,7 @@ picked-fine h present tip a b n la lb =
     (tip-fine h tip _ _ a b _ la lb (omega (arith, started-none present (h .«n_refs»))) (started-fine present (h .«n_refs»)))))
 
 -- the straight line of calls
-module _ (h : Pocs) (present : List Bool) (tip : Bool) (a b : Slot) (sg : List Bool) (di : List ℤ) (od : List Slot) (fi : ℕ) (li : List ℕ) (o : Order) (p q r s t : Picks) where
+module _ (h : Pocs) (present : List Bool) (tip : Bool) (a b : Slot) (sg : List Bool) (di : List ℤ) (od : List Slot) (fi : ℕ) (li : List Slot) (o : Order) (p q r s t : Picks) where
   pub picked-is : sg ≡ signs h → di ≡ diffs h → od ≡ sorted di (h .«n_refs») → fi ≡ leading sg od (h .«n_refs») 0 → li ≡ linksOf h → o ≡ ordered li (h .«n_refs»)
       → p ≡ started present (h .«n_refs») → q ≡ withTip h tip sg (o .place) a b p → r ≡ neighbours h od fi q → s ≡ nearest od fi r → t ≡ rest di (o .list) (o .count) s
       → t ≡ picked h present tip a b
@@ -168,7 +163,7 @@ pub tip-is : (h : Pocs) (mode : ℕ) (both : Bool) (a b : Slot) (d : ℤ) (ds : 
 unfolding tipOf
 tip-is h mode both a b d ds m x y z n e1 e2 e3 e4 e5 e6 = rw (ne-eqb mode 0 n, e4, e5, e6, e3, e2, e1)
 
-slot-go : (t : ℤ) (u v : Bool) → ltZ t (pos 0) ≡ u → ltZ (pos 6) t ≡ v → _<_ (cond u noSlot (cond v noSlot (record { 0 = natAbs t })) .0) 7
+slot-go : (t : ℤ) (u v : Bool) → ltZ t (pos 0) ≡ u → ltZ (pos 6) t ≡ v → _<_ (cond u (slot 0) (cond v (slot 0) (slot (natAbs t))) .0) 7
 slot-go t true v e f = omega arith
 slot-go t false true e f = omega arith
 slot-go t false false e f = omega (signed, ud t)

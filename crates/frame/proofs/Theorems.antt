@@ -1,16 +1,18 @@
 -- The theorems that specs/Theorems.antt states. Assumes nothing.
 use mathlib.Core.Path.{_≡_, refl}
-use mathlib.Core.Bool.{Bool, true, false, cond}
+use mathlib.Core.Bool.{Bool, true, false, not, cond, _||_}
 use mathlib.Core.List.{List}
 use Prim.Native.Nat.{ℕ, zero, suc, _+_, _*_, _≤_, _<_}
 use mathlib.Core.Logic.{_⊎_, inl, inr}
 use native.Mathlib.Omega.{arith}
 use lib.Dec.{ltb, eqb}
 use lib.ListN.{getD, replicate, getD-replicate}
-use borrow.Author.Tests.{ltb-true, ltb-false, eqb-false, eq-eqb}
+use borrow.Author.Tests.{ltb-true, ltb-false, eqb-true, eqb-false, eq-eqb}
 use Rattle.loops.proofs.Keeps.{set-has, span-in}
 use Rattle.picks.specs.declared.Pocs.{Pocs}
 use Rattle.levels.specs.declared.OrderHint.{OrderHint}
+use Rattle.levels.specs.declared.Slot.{Slot}
+use Rattle.levels.specs.Slots.{slot, noLink}
 use Rattle.picks.specs.declared.Saved.{Saved}
 use Rattle.picks.specs.Hints.{noHint, savedOf}
 use Rattle.entry.specs.Entry.{found}
@@ -19,7 +21,7 @@ use Rattle.rank.proofs.Sorted as rank
 use Rattle.topo.specs.Theorems.{Among}
 use Rattle.topo.proofs.Perm as topo
 use Rattle.frame.specs.declared.Header.{Header}
-use Rattle.frame.specs.Frame.{badSize, looksAtTip, notInUse, refusalOf, frameOf, setupOf}
+use Rattle.frame.specs.Frame.{badStep, badSize, refusalOf, frameOf, setupOf}
 use Rattle.frame.specs.Theorems.{FrameInRange, AcceptedInRange, OrdersPermute}
 use Rattle.frame.proofs.Range.{sources-in}
 
@@ -38,9 +40,18 @@ good-size : (n : ℕ) → badSize n ≡ false → (1 ≤ n) × (n ≤ 65536)
 unfolding badSize
 good-size n e = size-go n (eqb n 0) refl e
 
-not-zero : (n : ℕ) → eqb n 0 ≡ false → 1 ≤ n
-not-zero zero e = absurd (eqb-false 0 0 e refl)
-not-zero (suc n) e = omega arith
+step-go : (n : ℕ) (t u : Bool) → eqb n 1 ≡ t → eqb n 2 ≡ u → not (t || u) ≡ false → (1 ≤ n) × (n ≤ 2)
+step-go n true u e f h = let k = eqb-true n 1 e in (omega arith, omega arith)
+step-go n false true e f h = let k = eqb-true n 2 f in (omega arith, omega arith)
+step-go n false false e f h = let z : _≡_ {A = ℕ} 0 1 = cc in absurd (omega arith)
+
+good-step : (n : ℕ) → badStep n ≡ false → (1 ≤ n) × (n ≤ 2)
+unfolding badStep
+good-step n e = step-go n (eqb n 1) (eqb n 2) refl refl e
+
+neither : (t u : Bool) → (t || u) ≡ false → (t ≡ false) × (u ≡ false)
+neither true u e = let z : _≡_ {A = ℕ} 0 1 = cc in absurd (omega arith)
+neither false u e = (refl, e)
 
 in-range : (f : Header) → refusalOf f ≡ 0 → FrameInRange (frameOf f)
 unfolding refusalOf frameOf
@@ -48,19 +59,19 @@ in-range f e =
     let a = passed (ltb 8 (f .pocs .nbits)) 2 _ e in
     let b = passed (ltb 7 (f .pocs .«n_refs»)) 3 _ (a .1) in
     let c = passed (ltb 2 (f .sb128)) 4 _ (b .1) in
-    let d = passed (eqb (f .«tmvp_sample_step») 0) 5 _ (c .1) in
-    let g = passed (ltb 2 (f .«tmvp_sample_step»)) 5 _ (d .1) in
-    let h = passed (badSize (f .width)) 6 _ (g .1) in
-    let i = passed (badSize (f .height)) 6 _ (h .1) in
-    let w = good-size (f .width) (h .0) in let t = good-size (f .height) (i .0) in let s = sources-in f e in
+    let d = passed (badStep (f .«tmvp_sample_step»)) 5 _ (c .1) in
+    let g = passed (badSize (f .width) || badSize (f .height)) 6 _ (d .1) in
+    let h = neither (badSize (f .width)) (badSize (f .height)) (g .0) in
+    let w = good-size (f .width) (h .0) in let t = good-size (f .height) (h .1) in
+    let p = good-step (f .«tmvp_sample_step») (d .0) in let s = sources-in f e in
     record {
       widthLow = w .0;
       widthHigh = w .1;
       heightLow = t .0;
       heightHigh = t .1;
       code = ltb-false 2 (f .sb128) (c .0);
-      stepLow = not-zero (f .«tmvp_sample_step») (d .0);
-      stepHigh = ltb-false 2 (f .«tmvp_sample_step») (g .0);
+      stepLow = p .0;
+      stepHigh = p .1;
       slots = ltb-false 7 (f .pocs .«n_refs») (b .0);
       few = s .0;
       each = s .1;
@@ -72,10 +83,10 @@ accepted-in-range f e = rw (eq-eqb (refusalOf f) 0 e) (in-range f e)
 
 -- ---- the links are among the slots in use
 
-abbrev Target : ℕ → ℕ → Type 0
-Target n v = (v < n) ⊎ (7 ≤ v)
+abbrev Target : ℕ → Slot → Type 0
+Target n s = (s .0 < n) ⊎ (7 ≤ s .0)
 
-link-go : (n x : ℕ) (t u : Bool) → ltb x n ≡ u → Target n (cond t 7 (cond u x 7))
+link-go : (n x : ℕ) (t u : Bool) → ltb x n ≡ u → Target n (cond t noLink (cond u (slot x) noLink))
 link-go n x true u e = inr (omega arith)
 link-go n x false true e = inl (ltb-true x n e)
 link-go n x false false e = inr (omega arith)
@@ -87,9 +98,9 @@ link-in hints s n m = let x = found hints (getD (s .«ref_poc») m noHint) n 0 i
 links-among : (h : Pocs) → h .«n_refs» ≤ 7 → Among (h .«n_refs») (linksOf h)
 unfolding linksOf
 links-among h l i m p q =
-    span-in (λ (g : List ℕ). (k : ℕ) → k < 49 → Target (h .«n_refs») (getD g k 0)) (putLink h) (7 * h .«n_refs»)
-    (λ k g b a j r. set-has (Target (h .«n_refs»)) g k j _ 0 (link-in (h .«ref_poc») (savedOf h _) (h .«n_refs») _) (a j r))
-    (replicate 49 7) (λ k r. rw (getD-replicate {A = ℕ} 49 k 7 0 r) (inr (omega arith))) (i * 7 + m) (omega arith)
+    span-in (λ (g : List Slot). (k : ℕ) → k < 49 → Target (h .«n_refs») (getD g k (slot 0))) (putLink h) (7 * h .«n_refs»)
+    (λ k g b a j r. set-has (Target (h .«n_refs»)) g k j _ (slot 0) (link-in (h .«ref_poc») (savedOf h _) (h .«n_refs») _) (a j r))
+    (replicate 49 noLink) (λ k r. rw (getD-replicate {A = Slot} 49 k noLink (slot 0) r) (inr (omega arith))) (i * 7 + m) (omega arith)
 
 pub orders-permute : OrdersPermute
 orders-permute h l = (rank.is-permutation (diffs h) (h .«n_refs») l, topo.is-permutation (linksOf h) (h .«n_refs») l (links-among h l))

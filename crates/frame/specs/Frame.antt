@@ -1,6 +1,6 @@
 -- The setup record (01 "Setup record"; init_frame). Assumes nothing.
 use Prim.Native.Nat.{ℕ, zero, suc, _+_, _*_, _≤_, _<_}
-use mathlib.Core.Bool.{Bool, true, false, not, cond, _||_}
+use mathlib.Core.Bool.{Bool, true, false, not, cond, _&&_, _||_}
 use mathlib.Core.List.{List}
 use lib.Dec.{ltb, leb, eqb}
 use lib.IntN.{ℤ, pos, negsuc, natAbs}
@@ -11,12 +11,13 @@ use Rattle.loops.specs.Over.{span}
 use Rattle.loops.specs.Seven.{seven}
 use Rattle.intops.specs.Choice.{pickZ}
 use Rattle.levels.specs.declared.Slot.{Slot}
+use Rattle.levels.specs.Slots.{slot, slotAt}
 use Rattle.env.specs.Hints.{hintDiff}
 use Rattle.picks.specs.declared.Pocs.{Pocs}
 use Rattle.picks.specs.declared.MfmvRef.{MfmvRef}
 use Rattle.picks.specs.declared.Picks.{Picks}
 use Rattle.picks.specs.Hints.{hintOf}
-use Rattle.picks.specs.Picks.{noSlot, neighbours, nearest, rest}
+use Rattle.picks.specs.Picks.{neighbours, nearest, rest}
 use Rattle.entry.specs.declared.Source.{Source}
 use Rattle.entry.specs.Entry.{sourceOf, ratioZ}
 use Rattle.rank.specs.Rank.{sorted}
@@ -33,11 +34,11 @@ use Rattle.frame.specs.declared.Said.the-variants.{Accepted, TooManyBits
 -- where the leading run of the k sorted slots from l on whose sign is set ends (first_fut). Earlier: the sign is set; later: it is not, so also the frame's own hint. A slot half the range away has its sign set and a negative difference, and may stand past this run
 unfoldable pub leading : List Bool → List Slot → ℕ → ℕ → ℕ
 leading sign order zero l = l
-leading sign order (suc k) l = cond (getD sign (getD order l noSlot .0) false) (leading sign order k (l + 1)) l
+leading sign order (suc k) l = cond (getD sign (slotAt order l) false) (leading sign order k (l + 1)) l
 
 -- a source that is not there
 abbrev pub noPick : MfmvRef
-noPick = record { reference = noSlot; tgt = pos 0; dir = 0 }
+noPick = record { reference = slot 0; tgt = pos 0; dir = 0 }
 
 -- a slot in use with no plane is taken in both directions: 2 i + direction
 abbrev pub putTaken : List Bool → ℕ → Picks → Picks
@@ -78,18 +79,6 @@ picked h present tip a b =
     (neighbours h order first
     (withTip h tip (signs h) (o .place) a b (started present (h .«n_refs»)))))
 
--- a source that may be picked: a slot, a target of −1 to 6, direction 0 or 1
-pub record Pickable (x : MfmvRef) : Type 0 where
-  pub reference : x .reference .0 < 7
-  pub low : negsuc 0 ≤ℤ x .tgt
-  pub high : x .tgt ≤ℤ pos 6
-  pub dir : x .dir < 2
-
--- four such sources at most
-pub record Fine (p : Picks) : Type 0 where
-  pub few : p .count ≤ 4
-  pub each : (k : ℕ) → Pickable (getD (p .list) k noPick)
-
 -- what the loader tests of a source (01, setup record)
 pub record SourceInRange (s : Source) : Type 0 where
   pub reference : s .reference .0 < 7
@@ -110,7 +99,7 @@ pub record SourceInRange (s : Source) : Type 0 where
 abbrev pub noSource : Source
 noSource =
     record {
-      reference = noSlot;
+      reference = slot 0;
       tgt = pos 0;
       dir = 0;
       ref2cur = pos 0;
@@ -141,7 +130,7 @@ filled h p = span (putSource h p) 0 (p .count) (noSources (p .count) (maskOf (p 
 
 -- a TIP slot as a slot; one out of range is never looked at
 unfoldable pub slotOf : ℤ → Slot
-slotOf t = cond (ltZ t (pos 0)) noSlot (cond (ltZ (pos 6) t) noSlot (record { 0 = natAbs t }))
+slotOf t = cond (ltZ t (pos 0)) (slot 0) (cond (ltZ (pos 6) t) (slot 0) (slot (natAbs t)))
 
 -- none where the frame's switch is off, hint bits are 0 or fewer than two slots exist
 unfoldable pub sourcesOf : Header → Sources
@@ -175,6 +164,14 @@ tipOf h mode both a b =
 
 -- ---- the refusals
 
+-- refusal 6: not 1 or 2
+unfoldable pub badStep : ℕ → Bool
+badStep n = not (eqb n 1 || eqb n 2)
+
+-- refusal 7: not 1..65,536
+unfoldable pub badSize : ℕ → Bool
+badSize n = cond (eqb n 0) true (ltb 65536 n)
+
 -- refusal 8 looks at the TIP pair where TIP mode is not 0, or sequence TIP and the frame's switch are on, hint bits not 0, slots above 1
 unfoldable pub looksAtTip : Header → Bool
 looksAtTip f =
@@ -186,9 +183,9 @@ looksAtTip f =
 unfoldable pub notInUse : Header → ℤ → Bool
 notInUse f t = cond (ltZ t (pos 0)) true (leb (f .pocs .«n_refs») (natAbs t))
 
--- not 1..65,536
-unfoldable pub badSize : ℕ → Bool
-badSize n = cond (eqb n 0) true (ltb 65536 n)
+-- refusal 8: one of the pair is not a slot in use, where the pair is looked at
+unfoldable pub badTip : Header → Bool
+badTip f = looksAtTip f && (notInUse f (f .tip0) || notInUse f (f .tip1))
 
 -- the number of the first refusal that holds, in the table's order, and 0 for none
 unfoldable pub refusalOf : Header → ℕ
@@ -196,11 +193,9 @@ refusalOf f =
     cond (ltb 8 (f .pocs .nbits)) 3
     (cond (ltb 7 (f .pocs .«n_refs»)) 4
     (cond (ltb 2 (f .sb128)) 5
-    (cond (eqb (f .«tmvp_sample_step») 0) 6
-    (cond (ltb 2 (f .«tmvp_sample_step»)) 6
-    (cond (badSize (f .width)) 7
-    (cond (badSize (f .height)) 7
-    (cond (looksAtTip f) (cond (notInUse f (f .tip0)) 8 (cond (notInUse f (f .tip1)) 8 0)) 0)))))))
+    (cond (badStep (f .«tmvp_sample_step»)) 6
+    (cond (badSize (f .width) || badSize (f .height)) 7
+    (cond (badTip f) 8 0)))))
 
 -- the record of a header that is not refused; the planes are those of all seven slots, also past the slots in use
 unfoldable pub frameOf : Header → Frame
@@ -268,3 +263,17 @@ saysSetup s = record { refusal = numberOf (s .said); frame = s .frame }
 -- init_frame: the record, or the number of the refusal beside a record of zeros
 unfoldable pub setupOf : Header → SaidSetup
 setupOf f = record { refusal = refusalOf f; frame = cond (eqb (refusalOf f) 0) (frameOf f) zeroFrame }
+
+-- ---- For the contracts of internal functions
+
+-- a source that may be picked: a slot, a target of −1 to 6, direction 0 or 1
+pub record Pickable (x : MfmvRef) : Type 0 where
+  pub reference : x .reference .0 < 7
+  pub low : negsuc 0 ≤ℤ x .tgt
+  pub high : x .tgt ≤ℤ pos 6
+  pub dir : x .dir < 2
+
+-- four such sources at most
+pub record Fine (p : Picks) : Type 0 where
+  pub few : p .count ≤ 4
+  pub each : (k : ℕ) → Pickable (getD (p .list) k noPick)

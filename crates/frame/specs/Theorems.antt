@@ -2,12 +2,12 @@
 use mathlib.Core.Path.{_≡_}
 use Prim.Native.Nat.{ℕ, _≤_}
 use lib.ListN.{getD}
+use Rattle.levels.specs.Slots.{Permutes}
 use Rattle.picks.specs.declared.Pocs.{Pocs}
 use Rattle.refs.specs.Refs.{diffs, linksOf}
 use Rattle.rank.specs.Rank.{sorted}
-use Rattle.rank.specs.Theorems as rank
 use Rattle.topo.specs.Topo.{ordered}
-use Rattle.topo.specs.Theorems as topo
+use Rattle.topo.specs.Theorems.{Orders}
 use Rattle.frame.specs.declared.Header.{Header}
 use Rattle.frame.specs.declared.Frame.{Frame}
 use Rattle.frame.specs.Frame.{SourceInRange, noSource, setupOf}
@@ -31,4 +31,4 @@ AcceptedInRange = (f : Header) → setupOf f .refusal ≡ 0 → FrameInRange (se
 
 -- the sorted order and the dependency order are each a permutation of the slots in use; so the dependency order counts the slots in use, and the Rust's test of its count is 01's "fewer than two slots"
 abbrev pub OrdersPermute : Type 0
-OrdersPermute = (h : Pocs) → h .«n_refs» ≤ 7 → rank.Permutes (sorted (diffs h) (h .«n_refs»)) (h .«n_refs») × topo.Permutes (ordered (linksOf h) (h .«n_refs»)) (h .«n_refs»)
+OrdersPermute = (h : Pocs) → h .«n_refs» ≤ 7 → Permutes (sorted (diffs h) (h .«n_refs»)) (h .«n_refs») × Orders (ordered (linksOf h) (h .«n_refs»)) (h .«n_refs»)

@@ -1,14 +1,10 @@
 // The setup of a frame: init_frame.
 ghost use mathlib.Core.Path.{_≡_};
-ghost use mathlib.Core.Bool.{_||_};
 ghost use Prim.Native.Nat.{_≤_, _<_, _+_, _*_};
-ghost use lib.Dec.{eqb};
-ghost use lib.ListN.{getD};
-ghost use mir.Val.{boolByte};
 ghost use Rattle.mv.specs.Projection.{reciprocals};
 ghost use Rattle.picks.specs.Picks.{Slots};
 ghost use Rattle.refs.specs.Refs.{signs, diffs};
-ghost use Rattle.frame.specs.Frame.{leading, started, tipPut, tipAdd, withTip, picked, Fine, filled, slotOf, sourcesOf, tipDiff, inByte, tipOf, looksAtTip, notInUse, badSize, refusalOf, frameOf, zeroFrame, noSource, noSources, used, maskOf, numberOf, saysSetup, setupOf};
+ghost use Rattle.frame.specs.Frame.{leading, started, tipPut, tipAdd, withTip, picked, Fine, filled, slotOf, sourcesOf, tipDiff, inByte, tipOf, looksAtTip, notInUse, badTip, badSize, badStep, refusalOf, frameOf, zeroFrame, noSource, noSources, used, maskOf, numberOf, saysSetup, setupOf};
 use entry::Source;
 use levels::Slot;
 use picks::MfmvRef;
@@ -16,14 +12,14 @@ use picks::Picks;
 use picks::Pocs;
 
 // How many of the sorted slots lead with their sign set.
-pub fn first_later(sign: [bool; 7], order: [Slot; 7], n: usize) -> usize
+fn first_later(sign: [bool; 7], order: [Slot; 7], n: usize) -> usize
     requires { ⌜ (n ≤ 7) × Slots order ⌝ }
     ensures { λ r. ⌜ r ≡ leading sign order n 0 ⌝ }
 {
     let mut l: usize = 0;
     while l < n {
         let s = order[l];
-        let b = sign[s.0 as usize];
+        let b = sign[levels::slot_index(s)];
         if !b {
             return l;
         }
@@ -33,7 +29,7 @@ pub fn first_later(sign: [bool; 7], order: [Slot; 7], n: usize) -> usize
 }
 
 // No source yet, and the slots with no plane are taken.
-pub fn start(present: [bool; 7], n: usize) -> Picks
+fn start(present: [bool; 7], n: usize) -> Picks
     requires { ⌜ n ≤ 7 ⌝ }
     ensures { λ r. ⌜ r ≡ started present n ⌝ }
 {
@@ -58,12 +54,12 @@ pub fn start(present: [bool; 7], n: usize) -> Picks
 }
 
 // The source s with the target t is appended.
-pub fn tip_put(h: Pocs, s: Slot, t: Slot, p: Picks) -> Picks
+fn tip_put(h: Pocs, s: Slot, t: Slot, p: Picks) -> Picks
     requires { ⌜ (h .nbits ≤ 8) × (s .0 < 7) × (t .0 < 7) × (p .count < 4) ⌝ }
     ensures { λ r. ⌜ r ≡ tipPut h s t p ⌝ }
 {
-    let x = s.0 as usize;
-    let y = t.0 as usize;
+    let x = levels::slot_index(s);
+    let y = levels::slot_index(t);
     let a = h.ref_poc[x];
     let b = h.ref_poc[y];
     let dir = (env::poc_diff(h.nbits, a, b) < 0) as u8;
@@ -82,12 +78,12 @@ pub fn tip_put(h: Pocs, s: Slot, t: Slot, p: Picks) -> Picks
 }
 
 // Of the pair, the slot that stands later in the order is the source.
-pub fn tip_add(h: Pocs, place: [u8; 7], a: Slot, b: Slot, p: Picks) -> Picks
+fn tip_add(h: Pocs, place: [u8; 7], a: Slot, b: Slot, p: Picks) -> Picks
     requires { ⌜ (h .nbits ≤ 8) × (a .0 < 7) × (b .0 < 7) × (p .count < 4) ⌝ }
     ensures { λ r. ⌜ r ≡ tipAdd h place a b p ⌝ }
 {
-    let x = place[a.0 as usize];
-    let y = place[b.0 as usize];
+    let x = place[levels::slot_index(a)];
+    let y = place[levels::slot_index(b)];
     if y < x {
         tip_put(h, a, b, p)
     } else {
@@ -96,7 +92,7 @@ pub fn tip_add(h: Pocs, place: [u8; 7], a: Slot, b: Slot, p: Picks) -> Picks
 }
 
 // The TIP pair, where one of the two is earlier than the frame.
-pub fn tip_source(
+fn tip_source(
     h: Pocs,
     on: bool,
     sign: [bool; 7],
@@ -111,8 +107,8 @@ pub fn tip_source(
     if !on {
         return p;
     }
-    let x = sign[a.0 as usize];
-    let y = sign[b.0 as usize];
+    let x = sign[levels::slot_index(a)];
+    let y = sign[levels::slot_index(b)];
     if x {
         return tip_add(h, place, a, b, p);
     }
@@ -120,7 +116,7 @@ pub fn tip_source(
 }
 
 // All sources, in the order in which they are picked.
-pub fn pick_sources(
+fn pick_sources(
     h: Pocs,
     present: [bool; 7],
     tip: bool,
@@ -136,7 +132,7 @@ pub fn pick_sources(
     let order = rank::sort_slots(diff, n);
     let first = first_later(sign, order, n);
     let links = refs::links_of(h);
-    let o = topo::topo_order(&links, n);
+    let o = topo::topo_order(links, n);
     let place = o.place;
     let list = o.list;
     let count = o.count;
@@ -282,7 +278,7 @@ fn used_mask(taken: [bool; 14]) -> u8
     mask_low(taken) + 16 * used_bit(taken, 4) + 32 * used_bit(taken, 5) + 64 * used_bit(taken, 6)
 }
 
-pub fn fill_sources(h: Pocs, p: Picks, table: &[u16; 32]) -> Sources
+fn fill_sources(h: Pocs, p: Picks, table: &[u16; 32]) -> Sources
     requires { ⌜ (h .nbits ≤ 8) × Fine p × (now table ≡ reciprocals) ⌝ }
     ensures { λ r. ⌜ r ≡ filled h p ⌝ }
 {
@@ -310,7 +306,7 @@ fn slot_of(t: i8) -> Slot
     }
 }
 
-pub fn sources_of(f: Header, sign: [bool; 7], diff: [i8; 7], table: &[u16; 32]) -> Sources
+fn sources_of(f: Header, sign: [bool; 7], diff: [i8; 7], table: &[u16; 32]) -> Sources
     requires { ⌜ (f .pocs .nbits ≤ 8) × (f .pocs .«n_refs» ≤ 7) × (sign ≡ signs (f .pocs)) × (diff ≡ diffs (f .pocs)) × (now table ≡ reciprocals) ⌝ }
     ensures { λ r. ⌜ r ≡ sourcesOf f ⌝ }
 {
@@ -335,8 +331,8 @@ fn tip_diff(h: Pocs, both: bool, a: Slot, b: Slot) -> i32
     requires { ⌜ (h .nbits ≤ 8) × (a .0 < 7) × (b .0 < 7) ⌝ }
     ensures { λ r. ⌜ r ≡ tipDiff h both a b ⌝ }
 {
-    let x = a.0 as usize;
-    let y = b.0 as usize;
+    let x = levels::slot_index(a);
+    let y = levels::slot_index(b);
     let p = h.ref_poc[x];
     let q = h.ref_poc[y];
     if both {
@@ -352,15 +348,7 @@ fn in_byte(m: u32) -> i8
     if m < 128 { m as i8 } else { -128 }
 }
 
-pub fn tip_of(
-    h: Pocs,
-    mode: u8,
-    both: bool,
-    a: Slot,
-    b: Slot,
-    diff: [i8; 7],
-    table: &[u16; 32],
-) -> Tip
+fn tip_of(h: Pocs, mode: u8, both: bool, a: Slot, b: Slot, diff: [i8; 7], table: &[u16; 32]) -> Tip
     requires { ⌜ (h .nbits ≤ 8) × (a .0 < 7) × (b .0 < 7) × (diff ≡ diffs h) × (now table ≡ reciprocals) ⌝ }
     ensures { λ r. ⌜ r ≡ tipOf h mode both a b ⌝ }
 {
@@ -372,12 +360,18 @@ pub fn tip_of(
         };
     }
     let d = tip_diff(h, both, a, b);
-    let x = diff[a.0 as usize];
-    let y = diff[b.0 as usize];
+    let x = diff[levels::slot_index(a)];
+    let y = diff[levels::slot_index(b)];
     let delta = in_byte(intops::unsigned_abs(d));
     let sf0 = entry::ratio(x as i32, d, table);
     let sf1 = entry::ratio(y as i32, d, table);
     Tip { delta, sf0, sf1 }
+}
+
+fn bad_step(n: u8) -> bool
+    ensures { λ r. ⌜ r ≡ badStep n ⌝ }
+{
+    !((n == 1) | (n == 2))
 }
 
 fn bad_size(n: u32) -> bool
@@ -415,8 +409,14 @@ fn not_in_use(f: Header, t: i8) -> bool
     h.n_refs <= (t as usize)
 }
 
+fn bad_tip(f: Header) -> bool
+    ensures { λ r. ⌜ r ≡ badTip f ⌝ }
+{
+    looks_at_tip(f) & (not_in_use(f, f.tip0) | not_in_use(f, f.tip1))
+}
+
 // The first refusal that holds, in the table's order.
-pub fn refusal(f: Header) -> Said
+fn refusal(f: Header) -> Said
     ensures { λ r. ⌜ numberOf r ≡ refusalOf f ⌝ }
 {
     let h = f.pocs;
@@ -429,31 +429,19 @@ pub fn refusal(f: Header) -> Said
     if 2 < f.sb128 {
         return Said::BadSuperblock;
     }
-    if f.tmvp_sample_step == 0 {
+    if bad_step(f.tmvp_sample_step) {
         return Said::BadStep;
     }
-    if 2 < f.tmvp_sample_step {
-        return Said::BadStep;
-    }
-    if bad_size(f.width) {
+    if bad_size(f.width) | bad_size(f.height) {
         return Said::BadSize;
     }
-    if bad_size(f.height) {
-        return Said::BadSize;
-    }
-    if !looks_at_tip(f) {
-        return Said::Accepted;
-    }
-    if not_in_use(f, f.tip0) {
-        return Said::BadTipSlot;
-    }
-    if not_in_use(f, f.tip1) {
+    if bad_tip(f) {
         return Said::BadTipSlot;
     }
     Said::Accepted
 }
 
-pub fn frame_of(f: Header) -> Frame
+fn frame_of(f: Header) -> Frame
     requires { ⌜ (f .pocs .nbits ≤ 8) × (f .pocs .«n_refs» ≤ 7) ⌝ }
     ensures { λ r. ⌜ r ≡ frameOf f ⌝ }
 {

@@ -1,4 +1,5 @@
 // The types of levels.rs that the motion field is made of, and the answers of the functions on vectors.
+ghost use mathlib.Core.Path.{_≡_};
 
 // A motion vector, y first. It is empty (01's term) where y is INVALID_MV; (0, 0) is a still cell.
 pub struct Mv {
@@ -18,6 +19,16 @@ pub struct QMv {
 // A reference slot (01's term slot), 0 to 6: who takes one tests it. It is no order hint.
 #[repr(C)]
 pub struct Slot(pub u8);
+
+// In the table of links, which has a slot or none at each place, none.
+pub const NO_LINK: Slot = Slot(7);
+
+// A slot as an index of an array. No other function makes an index of a slot.
+pub fn slot_index(s: Slot) -> usize
+    ensures { λ r. ⌜ r ≡ s .0 ⌝ }
+{
+    s.0 as usize
+}
 
 // An order hint (01's term), 0 to 255. It is no slot.
 #[repr(C)]

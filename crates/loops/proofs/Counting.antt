@@ -1,4 +1,4 @@
--- Numbers below a bound, and a function that takes no two of them to the same. Assumes nothing.
+-- Tests as numbers; numbers below a bound, and a function that takes no two of them to the same. Assumes nothing.
 use mathlib.Core.Path.{_≡_, refl, sym, _∙_}
 use mathlib.Core.Bool.{Bool, true, false, cond}
 use Prim.Native.Nat.{ℕ, zero, suc, _<_, _≤_}
@@ -6,7 +6,13 @@ use native.Mathlib.Omega.{arith}
 use native.Mathlib.Decide.{decLe}
 use mathlib.Core.Logic.{dite}
 use lib.Dec.{eqb}
+use mir.Val.{boolByte}
 use borrow.Author.Tests.{eqb-true, eqb-false, ne-eqb, eq-eqb}
+
+-- a test counts as one at most
+pub byte-one : (b : Bool) → boolByte b ≤ 1
+byte-one true = omega arith
+byte-one false = omega arith
 
 -- by whether a number is another
 by-eq : {P : Type 0} (a b : ℕ) (t : Bool) → eqb a b ≡ t → (a ≡ b → P) → ((a ≡ b → ⊥) → P) → P

@@ -1,4 +1,5 @@
 pub mod Counting
 pub mod Keeps
 pub mod Seven
+pub mod Slots
 pub mod Turns

@@ -1,9 +1,9 @@
--- What a loop's needs ask of the folds: a turn, the end; what a step keeps, the fold keeps; the last row is within.
+-- What a loop's needs ask of the folds: a turn, the end; the last row is within.
 -- Assumes nothing.
-use mathlib.Core.Path.{_≡_, refl, sym, ap, _∙_, subst}
-use Prim.Native.Nat.{ℕ, zero, suc, _+_, _-_, _*_, _/_, _<_, _≤_}
+use mathlib.Core.Path.{_≡_, sym, ap, _∙_}
+use Prim.Native.Nat.{ℕ, suc, _+_, _-_, _*_, _/_, _<_, _≤_}
 use native.Mathlib.Omega.{arith}
-use native.Mathlib.Nat.{add-div-right, mul-le-mul-right, suc-mul, add-mul, div-eq-of-lt}
+use native.Mathlib.Nat.{add-div-right, mul-le-mul-right, add-mul, div-eq-of-lt}
 use native.Mathlib.Decide.{decLe}
 use native.Mathlib.Numerals.{add-one}
 use mathlib.Core.Logic.{dite}
@@ -59,12 +59,6 @@ module _ {S : Type 0} (f : ℕ → S → S) where
 
   pub endedBy : (d b p : ℕ) (s t : S) → 0 < d → b ≤ p → spanBy d f p b s ≡ t → s ≡ t
   endedBy d b p s t k h i = sym (spanBy-end d b p s k h) ∙ i
-
-  -- what each step keeps
-  pub over-keeps : (P : S → Type 0) → ((p : ℕ) (s : S) → P s → P (f p s)) → (d n p : ℕ) (s : S) → P s → P (over f d n p s)
-  unfolding over
-  over-keeps P k d zero p s h = h
-  over-keeps P k d (suc n) p s h = over-keeps P k d n (p + d) (f p s) (k p s h)
 
 -- a row below the last lies within the rows
 pub row-within : (r rows stride : ℕ) → r < rows → r * stride + stride ≤ rows * stride

@@ -9,9 +9,10 @@ use lib.ListN.{getD}
 use denote.Enum.Declared.{tagOf}
 use Rattle.picks.proofs.Candidate.{the-type}
 use Rattle.levels.specs.declared.Slot.{Slot}
+use Rattle.levels.specs.Slots.{slot}
 use Rattle.picks.specs.declared.Candidate.{Candidate}
 use Rattle.picks.specs.declared.Candidate.the-variants.{Nothing, At}
-use Rattle.picks.specs.Picks.{Valid, Slots, noSlot, withSide, earlier, later, nthEarlier}
+use Rattle.picks.specs.Picks.{Valid, Slots, withSide, earlier, later, nthEarlier}
 use Rattle.picks.specs.declared.Pocs.{Pocs}
 use Rattle.picks.specs.Hints.{someOnSide}
 
@@ -24,23 +25,23 @@ valid-at c s e v = rw e at v
 
 side-go : (s : Slot) (t : Bool) → s .0 < 7 → Valid (cond t (At s) Nothing)
 side-go s true h = h
-side-go s false h = omega arith
+side-go s false h = tt
 
 pub side-valid : (h : Pocs) (late : Bool) (s : Slot) → s .0 < 7 → Valid (withSide h late s)
 side-valid h late s l = side-go s (someOnSide h (s .0) late) l
 
 none-go : (t : Bool) (c : Candidate) → Valid c → Valid (cond t Nothing c)
-none-go true c v = omega arith
+none-go true c v = tt
 none-go false c v = v
 
 pub earlier-valid : (h : Pocs) (xs : List Slot) (f n : ℕ) → Slots xs → Valid (earlier h xs f n)
 unfolding earlier
-earlier-valid h xs f n v = none-go (leb f n) (withSide h true (getD xs (f - n - 1) noSlot)) (side-valid h true (getD xs (f - n - 1) noSlot) (v (f - n - 1)))
+earlier-valid h xs f n v = none-go (leb f n) (withSide h true (getD xs (f - n - 1) (slot 0))) (side-valid h true (getD xs (f - n - 1) (slot 0)) (v (f - n - 1)))
 
 pub later-valid : (h : Pocs) (xs : List Slot) (f n : ℕ) → Slots xs → Valid (later h xs f n)
 unfolding later
-later-valid h xs f n v = none-go (leb (h .«n_refs») (f + n)) (withSide h false (getD xs (f + n) noSlot)) (side-valid h false (getD xs (f + n) noSlot) (v (f + n)))
+later-valid h xs f n v = none-go (leb (h .«n_refs») (f + n)) (withSide h false (getD xs (f + n) (slot 0))) (side-valid h false (getD xs (f + n) (slot 0)) (v (f + n)))
 
 pub nth-valid : (xs : List Slot) (f k : ℕ) → Slots xs → Valid (nthEarlier xs f k)
 unfolding nthEarlier
-nth-valid xs f k v = none-go (ltb f k) (At (getD xs (f - k) noSlot)) (v (f - k))
+nth-valid xs f k v = none-go (ltb f k) (At (getD xs (f - k) (slot 0))) (v (f - k))

@@ -8,6 +8,7 @@ use lib.Signed.{leZ}
 use lib.ListN.{getD, set}
 use Rattle.loops.specs.Over.{span}
 use Rattle.levels.specs.declared.Slot.{Slot}
+use Rattle.levels.specs.Slots.{slot, slotAt}
 use Rattle.picks.specs.declared.Pocs.{Pocs}
 use Rattle.picks.specs.declared.Picks.{Picks}
 use Rattle.picks.specs.declared.Candidate.{Candidate}
@@ -30,28 +31,16 @@ offered limit (At s) dir p =
     cond (leb limit (p .count)) p
     (cond (getD (p .taken) (s .0 * 2 + dir) false) p (appended s dir p))
 
-abbrev pub noSlot : Slot
-noSlot = record { 0 = 0 }
-
--- a candidate, if there is one, is a slot
-abbrev pub Valid : Candidate → Type 0
-Valid Nothing = 0 < 7
-Valid (At s) = s .0 < 7
-
--- all of them are slots
-abbrev pub Slots : List Slot → Type 0
-Slots xs = (k : ℕ) → getD xs k noSlot .0 < 7
-
 -- slot s, if it has a reference later than itself, or with late off an earlier one
 abbrev pub withSide : Pocs → Bool → Slot → Candidate
 withSide h late s = cond (someOnSide h (s .0) late) (At s) Nothing
 
 -- neighbour n before the first later slot, and neighbour n from there on
 unfoldable pub earlier : Pocs → List Slot → ℕ → ℕ → Candidate
-earlier h order first n = cond (leb first n) Nothing (withSide h true (getD order (first - n - 1) noSlot))
+earlier h order first n = cond (leb first n) Nothing (withSide h true (getD order (first - n - 1) (slot 0)))
 
 unfoldable pub later : Pocs → List Slot → ℕ → ℕ → Candidate
-later h order first n = cond (leb (h .«n_refs») (first + n)) Nothing (withSide h false (getD order (first + n) noSlot))
+later h order first n = cond (leb (h .«n_refs») (first + n)) Nothing (withSide h false (getD order (first + n) (slot 0)))
 
 -- the earlier neighbour is first where its closest reference is nearer than the later one's
 unfoldable pub nearerEarlier : Pocs → Candidate → Candidate → Bool
@@ -76,7 +65,7 @@ neighbours h order first p = span (round h order first) 0 2 p
 
 -- the k-th slot before the first later one, counted from 1
 unfoldable pub nthEarlier : List Slot → ℕ → ℕ → Candidate
-nthEarlier order first k = cond (ltb first k) Nothing (At (getD order (first - k) noSlot))
+nthEarlier order first k = cond (ltb first k) Nothing (At (getD order (first - k) (slot 0)))
 
 -- the two nearest earlier slots, up to three sources
 unfoldable pub nearest : List Slot → ℕ → Picks → Picks
@@ -91,8 +80,19 @@ bothWays diffs s p =
 
 -- one slot of the dependency order, counted from its end
 abbrev pub fromEnd : List ℤ → List Slot → ℕ → ℕ → Picks → Picks
-fromEnd diffs list count n p = bothWays diffs (getD list (count - 1 - n) noSlot) p
+fromEnd diffs list count n p = bothWays diffs (getD list (count - 1 - n) (slot 0)) p
 
 -- then the dependency order from its end, up to four sources
 unfoldable pub rest : List ℤ → List Slot → ℕ → Picks → Picks
 rest diffs list count p = span (fromEnd diffs list count) 0 count p
+
+-- ---- For the contracts of internal functions
+
+-- a candidate, if there is one, is a slot
+abbrev pub Valid : Candidate → Type 0
+Valid Nothing = Unit {0}
+Valid (At s) = s .0 < 7
+
+-- all of them are slots
+abbrev pub Slots : List Slot → Type 0
+Slots xs = (k : ℕ) → slotAt xs k < 7

@@ -1,6 +1,6 @@
 // The picking of the sources.
 ghost use mathlib.Core.Path.{_≡_};
-ghost use Prim.Native.Nat.{ℕ, _+_, _≤_, _<_};
+ghost use Prim.Native.Nat.{_+_, _≤_, _<_};
 ghost use Rattle.picks.specs.Hints.{savedDiffOf, sameSide, closerOf, closestOf, onSideOf, someOnSideOf};
 ghost use Rattle.picks.specs.Picks.{Valid, Slots, offered, withSide, earlier, later, nearerEarlier, inTurn, neighbours, nthEarlier, nearest, bothWays, rest};
 use levels::OrderHint;
@@ -22,7 +22,7 @@ pub struct Pocs {
 }
 
 // From the slot's reference n to the hint a, 0 where the slot has no references.
-pub fn saved_diff(nbits: u32, a: OrderHint, s: Saved, n: usize) -> i32
+fn saved_diff(nbits: u32, a: OrderHint, s: Saved, n: usize) -> i32
     requires { ⌜ (nbits ≤ 8) × (n < 7) ⌝ }
     ensures { λ r. ⌜ r ≡ savedDiffOf nbits a s n ⌝ }
 {
@@ -31,7 +31,7 @@ pub fn saved_diff(nbits: u32, a: OrderHint, s: Saved, n: usize) -> i32
     if s.refcnt == 0 { 0 } else { d }
 }
 
-pub fn same_side(a: i32, c: i32, dir: bool) -> bool
+fn same_side(a: i32, c: i32, dir: bool) -> bool
     ensures { λ r. ⌜ r ≡ sameSide a c dir ⌝ }
 {
     if dir {
@@ -41,15 +41,7 @@ pub fn same_side(a: i32, c: i32, dir: bool) -> bool
     }
 }
 
-pub fn nearer(
-    nbits: u32,
-    a: OrderHint,
-    poc: OrderHint,
-    s: Saved,
-    dir: bool,
-    n: usize,
-    b: u32,
-) -> u32
+fn nearer(nbits: u32, a: OrderHint, poc: OrderHint, s: Saved, dir: bool, n: usize, b: u32) -> u32
     requires { ⌜ (nbits ≤ 8) × (n < 7) ⌝ }
     ensures { λ r. ⌜ r ≡ closerOf nbits a poc s dir n b ⌝ }
 {
@@ -60,7 +52,7 @@ pub fn nearer(
     if t { m } else { b }
 }
 
-pub fn abs_closest_ref(nbits: u32, a: OrderHint, poc: OrderHint, s: Saved, dir: bool) -> u32
+fn abs_closest_ref(nbits: u32, a: OrderHint, poc: OrderHint, s: Saved, dir: bool) -> u32
     requires { ⌜ nbits ≤ 8 ⌝ }
     ensures { λ r. ⌜ r ≡ closestOf nbits a poc s dir ⌝ }
 {
@@ -71,7 +63,7 @@ pub fn abs_closest_ref(nbits: u32, a: OrderHint, poc: OrderHint, s: Saved, dir: 
     b
 }
 
-pub fn on_side(nbits: u32, a: OrderHint, s: Saved, late: bool, n: usize, b: bool) -> bool
+fn on_side(nbits: u32, a: OrderHint, s: Saved, late: bool, n: usize, b: bool) -> bool
     requires { ⌜ (nbits ≤ 8) × (n < 7) ⌝ }
     ensures { λ r. ⌜ r ≡ onSideOf nbits a s late n b ⌝ }
 {
@@ -79,7 +71,7 @@ pub fn on_side(nbits: u32, a: OrderHint, s: Saved, late: bool, n: usize, b: bool
     if late { b | (d < 0) } else { b | (0 < d) }
 }
 
-pub fn some_on_side(nbits: u32, a: OrderHint, s: Saved, late: bool) -> bool
+fn some_on_side(nbits: u32, a: OrderHint, s: Saved, late: bool) -> bool
     requires { ⌜ nbits ≤ 8 ⌝ }
     ensures { λ r. ⌜ r ≡ someOnSideOf nbits a s late ⌝ }
 {
@@ -110,7 +102,7 @@ pub struct Picks {
 }
 
 // The candidate is appended if it is not taken and fewer than `limit` are there.
-pub fn offer(p: Picks, limit: usize, c: Candidate, dir: u8) -> Picks
+fn offer(p: Picks, limit: usize, c: Candidate, dir: u8) -> Picks
     requires { ⌜ (limit ≤ 4) × (dir < 2) × Valid c ⌝ }
     ensures { λ r. ⌜ r ≡ offered limit c dir p ⌝ }
 {
@@ -121,7 +113,7 @@ pub fn offer(p: Picks, limit: usize, c: Candidate, dir: u8) -> Picks
             if limit <= k {
                 return p;
             }
-            let at = (s.0 as usize) * 2 + (dir as usize);
+            let at = levels::slot_index(s) * 2 + (dir as usize);
             let t = p.taken[at];
             if t {
                 return p;
@@ -141,11 +133,11 @@ pub fn offer(p: Picks, limit: usize, c: Candidate, dir: u8) -> Picks
 }
 
 // A slot that has a reference on the wanted side.
-pub fn with_side(h: Pocs, s: Slot, late: bool) -> Candidate
+fn with_side(h: Pocs, s: Slot, late: bool) -> Candidate
     requires { ⌜ (h .nbits ≤ 8) × (s .0 < 7) ⌝ }
     ensures { λ r. ⌜ r ≡ withSide h late s ⌝ }
 {
-    let at = s.0 as usize;
+    let at = levels::slot_index(s);
     let sv = h.saved[at];
     let a = h.ref_poc[at];
     if some_on_side(h.nbits, a, sv, late) {
@@ -156,7 +148,7 @@ pub fn with_side(h: Pocs, s: Slot, late: bool) -> Candidate
 }
 
 // The earlier neighbour n, if it has a later reference.
-pub fn earlier_neighbour(h: Pocs, order: [Slot; 7], first: usize, n: usize) -> Candidate
+fn earlier_neighbour(h: Pocs, order: [Slot; 7], first: usize, n: usize) -> Candidate
     requires { ⌜ (h .nbits ≤ 8) × (first ≤ 7) × Slots order ⌝ }
     ensures { λ r. ⌜ r ≡ earlier h order first n ⌝ }
 {
@@ -168,7 +160,7 @@ pub fn earlier_neighbour(h: Pocs, order: [Slot; 7], first: usize, n: usize) -> C
 }
 
 // The later neighbour n, if it has an earlier reference.
-pub fn later_neighbour(h: Pocs, order: [Slot; 7], first: usize, n: usize) -> Candidate
+fn later_neighbour(h: Pocs, order: [Slot; 7], first: usize, n: usize) -> Candidate
     requires { ⌜ (h .nbits ≤ 8) × (first ≤ 7) × (h .«n_refs» ≤ 7) × (n ≤ 7) × Slots order ⌝ }
     ensures { λ r. ⌜ r ≡ later h order first n ⌝ }
 {
@@ -180,7 +172,7 @@ pub fn later_neighbour(h: Pocs, order: [Slot; 7], first: usize, n: usize) -> Can
 }
 
 // Does the earlier neighbour come first?
-pub fn earlier_first(h: Pocs, a: Candidate, b: Candidate) -> bool
+fn earlier_first(h: Pocs, a: Candidate, b: Candidate) -> bool
     requires { ⌜ (h .nbits ≤ 8) × Valid a × Valid b ⌝ }
     ensures { λ r. ⌜ r ≡ nearerEarlier h a b ⌝ }
 {
@@ -190,18 +182,18 @@ pub fn earlier_first(h: Pocs, a: Candidate, b: Candidate) -> bool
     let Candidate::At(y) = b else {
         return false;
     };
-    let i = x.0 as usize;
+    let i = levels::slot_index(x);
     let si = h.saved[i];
     let ai = h.ref_poc[i];
     let m = abs_closest_ref(h.nbits, ai, h.poc, si, false);
-    let j = y.0 as usize;
+    let j = levels::slot_index(y);
     let sj = h.saved[j];
     let aj = h.ref_poc[j];
     let n = abs_closest_ref(h.nbits, aj, h.poc, sj, true);
     m < n
 }
 
-pub fn in_turn(h: Pocs, a: Candidate, b: Candidate, p: Picks) -> Picks
+fn in_turn(h: Pocs, a: Candidate, b: Candidate, p: Picks) -> Picks
     requires { ⌜ (h .nbits ≤ 8) × Valid a × Valid b ⌝ }
     ensures { λ r. ⌜ r ≡ inTurn h a b p ⌝ }
 {
@@ -228,7 +220,7 @@ pub fn pick_neighbours(h: Pocs, order: [Slot; 7], first: usize, p: Picks) -> Pic
 }
 
 // The k-th slot before the first later one.
-pub fn nth_earlier(order: [Slot; 7], first: usize, k: usize) -> Candidate
+fn nth_earlier(order: [Slot; 7], first: usize, k: usize) -> Candidate
     requires { ⌜ (first ≤ 7) × (0 < k) ⌝ }
     ensures { λ r. ⌜ r ≡ nthEarlier order first k ⌝ }
 {
@@ -250,11 +242,11 @@ pub fn pick_nearest(order: [Slot; 7], first: usize, p: Picks) -> Picks
 }
 
 // A slot's two directions, the one towards the frame first.
-pub fn both_ways(diffs: [i8; 7], s: Slot, p: Picks) -> Picks
+fn both_ways(diffs: [i8; 7], s: Slot, p: Picks) -> Picks
     requires { ⌜ s .0 < 7 ⌝ }
     ensures { λ r. ⌜ r ≡ bothWays diffs s p ⌝ }
 {
-    let at = s.0 as usize;
+    let at = levels::slot_index(s);
     let d = diffs[at];
     if 0 <= d {
         let q = offer(p, 4, Candidate::At(s), 1);

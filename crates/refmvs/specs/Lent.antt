@@ -1,12 +1,11 @@
 -- What a C entry answers, and what it leaves in the buffer that the caller lends. Assumes nothing.
 use mathlib.Core.Path.{_≡_}
-use mathlib.Core.Bool.{Bool, cond}
+use mathlib.Core.Bool.{cond}
 use mathlib.Core.List.{List}
 use Prim.Native.Nat.{ℕ}
 use lib.Dec.{eqb}
 use lib.IntN.{ℤ}
 use lib.ListN.{set}
-use Rattle.levels.specs.declared.Mv.{Mv}
 use Rattle.levels.specs.declared.QMv.{QMv}
 use Rattle.levels.specs.Answer.{Said}
 use Rattle.env.specs.Hints.{SaidDiff}

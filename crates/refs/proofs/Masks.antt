@@ -1,15 +1,15 @@
 -- The sizes of the flip mask. Assumes nothing.
-use mathlib.Core.Path.{_≡_, refl, sym, ap, _∙_}
+use mathlib.Core.Path.{_≡_}
 use mathlib.Core.Bool.{Bool, true, false}
 use mathlib.Core.List.{List}
 use Prim.Native.Nat.{ℕ, zero, suc, _+_, _*_, _-_, _%_, _^_, _<_, _≤_}
 use native.Mathlib.Omega.{arith}
-use native.Mathlib.Nat.{mod-eq-of-lt, one-mul, zero-mul, mul-le-mul-right, mul-add}
-use lib.Pow.{pow-mono, pow-add, pow-pos}
+use native.Mathlib.Nat.{mod-eq-of-lt, one-mul, zero-mul, mul-le-mul-right}
+use lib.Pow.{pow-mono, pow-add}
 use mir.Val.{boolByte}
 use Rattle.loops.specs.Over.{over, span}
 use Rattle.picks.specs.declared.Pocs.{Pocs}
-use Rattle.refs.specs.Refs.{flips, addFlip, flipRow, addRow, flipMask}
+use Rattle.refs.specs.Refs.{flips, addFlip, flipRow}
 
 pub bit-le : (b : Bool) (n : ℕ) → boolByte b * 2 ^ n ≤ 2 ^ n
 bit-le true n = omega (arith, one-mul (2 ^ n))

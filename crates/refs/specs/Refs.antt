@@ -13,6 +13,8 @@ use Rattle.intops.specs.Choice.{clipZ}
 use Rattle.env.specs.Hints.{hintDiff}
 use Rattle.picks.specs.declared.Pocs.{Pocs}
 use Rattle.levels.specs.declared.OrderHint.{OrderHint}
+use Rattle.levels.specs.declared.Slot.{Slot}
+use Rattle.levels.specs.Slots.{slot, noLink}
 use Rattle.picks.specs.declared.Saved.{Saved}
 use Rattle.picks.specs.Hints.{noHint, hintOf, savedOf}
 use Rattle.entry.specs.Entry.{found}
@@ -58,20 +60,20 @@ addRow h sign i m = m + flipRow h sign i * 2 ^ (8 * i)
 unfoldable pub flipMask : Pocs → List Bool → ℕ
 flipMask h sign = span (addRow h sign) 0 (h .«n_refs») 0
 
--- for the dependency order (refref2curref_idx): the first of the slots in use with the hint of reference n, 7 for none; a slot with reference count 0 has none
-unfoldable pub linkIn : List OrderHint → Saved → ℕ → ℕ → ℕ
+-- for the dependency order (refref2curref_idx): the first of the slots in use with the hint of reference n, or none; a slot with reference count 0 has none
+unfoldable pub linkIn : List OrderHint → Saved → ℕ → ℕ → Slot
 linkIn hints s refs n =
-    cond (eqb (s .refcnt) 0) 7
-    (cond (ltb (found hints (getD (s .«ref_poc») n noHint) refs 0) refs) (found hints (getD (s .«ref_poc») n noHint) refs 0) 7)
+    let i = found hints (getD (s .«ref_poc») n noHint) refs 0 in
+    cond (eqb (s .refcnt) 0) noLink (cond (ltb i refs) (slot i) noLink)
 
 -- that of slot i
-abbrev pub linkOf : Pocs → ℕ → ℕ → ℕ
+abbrev pub linkOf : Pocs → ℕ → ℕ → Slot
 linkOf h i n = linkIn (h .«ref_poc») (savedOf h i) (h .«n_refs») n
 
 -- reference n of slot i at place 7 i + n
-abbrev pub putLink : Pocs → ℕ → List ℕ → List ℕ
+abbrev pub putLink : Pocs → ℕ → List Slot → List Slot
 putLink h k g = set g k (linkOf h (k / 7) (k % 7))
 
--- the links of the slots in use; 7 for the others
-unfoldable pub linksOf : Pocs → List ℕ
-linksOf h = span (putLink h) 0 (7 * h .«n_refs») (replicate 49 7)
+-- the links of the slots in use; the others have none
+unfoldable pub linksOf : Pocs → List Slot
+linksOf h = span (putLink h) 0 (7 * h .«n_refs») (replicate 49 noLink)

@@ -6,7 +6,9 @@ ghost use lib.IntN.{pos, natAbs};
 ghost use lib.Signed.{ltZ};
 ghost use Rattle.env.specs.Hints.{hintDiff};
 ghost use Rattle.refs.specs.Refs.{isEarlier, clipped, signs, diffs, absDiffs, linkIn, linksOf, flipsOf, flipRow, flipMask};
+use levels::NO_LINK;
 use levels::OrderHint;
+use levels::Slot;
 use picks::Pocs;
 use picks::Saved;
 
@@ -74,27 +76,27 @@ pub fn all_abs_diffs(h: Pocs) -> [u8; 7]
     out
 }
 
-// The slot in use that a slot's reference n is, 7 for none.
-pub fn link_of(hints: [OrderHint; 7], s: Saved, refs: usize, n: usize) -> u8
+// The slot in use that a slot's reference n is, NO_LINK for none.
+pub fn link_of(hints: [OrderHint; 7], s: Saved, refs: usize, n: usize) -> Slot
     requires { ⌜ (refs ≤ 7) × (n < 7) ⌝ }
     ensures { λ r. ⌜ r ≡ linkIn hints s refs n ⌝ }
 {
     if s.refcnt == 0 {
-        return 7;
+        return NO_LINK;
     }
     let x = s.ref_poc[n];
     let r = entry::find_hint(hints, x, refs);
-    if r < refs { r as u8 } else { 7 }
+    if r < refs { Slot(r as u8) } else { NO_LINK }
 }
 
 // The links of the slots in use, seven to a slot.
-pub fn links_of(h: Pocs) -> [u8; 49]
+pub fn links_of(h: Pocs) -> [Slot; 49]
     requires { ⌜ h .«n_refs» ≤ 7 ⌝ }
     ensures { λ r. ⌜ r ≡ linksOf h ⌝ }
 {
     let refs = h.n_refs;
     let hints = h.ref_poc;
-    let mut out = [7u8; 49];
+    let mut out = [NO_LINK; 49];
     for k in 0..7 * refs {
         let s = h.saved[k / 7];
         let r = link_of(hints, s, refs, k % 7);

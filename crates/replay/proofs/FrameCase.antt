@@ -1,11 +1,10 @@
--- Laws of the kind `frame`: a loop's turns, and the header and the record by their parts. Assumes nothing.
-use mathlib.Core.Path.{_≡_, refl, sym, ap, _∙_}
+-- Laws of the kind `frame`: the header and the record by their parts. Assumes nothing.
+use mathlib.Core.Path.{_≡_}
 use mathlib.Core.Bool.{Bool}
 use mathlib.Core.List.{List}
-use Prim.Native.Nat.{ℕ, zero, suc, _+_, _-_, _≤_, _<_}
-use native.Mathlib.Omega.{arith}
+use Prim.Native.Nat.{ℕ, _+_}
 use lib.IntN.{ℤ, pos, natAbs}
-use lib.ListN.{set, replicate}
+use lib.ListN.{set}
 use Rattle.levels.specs.declared.OrderHint.{OrderHint}
 use Rattle.picks.specs.declared.Saved.{Saved}
 use Rattle.picks.specs.declared.Pocs.{Pocs}
@@ -13,29 +12,7 @@ use Rattle.entry.specs.declared.Source.{Source}
 use Rattle.frame.specs.declared.Header.{Header}
 use Rattle.frame.specs.declared.Frame.{Frame}
 use Rattle.replay.specs.Judged.{at, hint}
-use Rattle.replay.specs.FrameCase.{turns, seven, isOn, hintsAt, allSaved, switchesAt, pocsOf, headerOf, bit, bits, bytes, inI64, putSeven, putSource, putSources, putHead, putFrame}
-
-module _ {S : Type 0} (f : ℕ → S → S) where
-  -- a turn, and the end: s′ is what the turn made of s, t what all make
-  pub turned : (n i : ℕ) (s s′ t : S) → i < n → s′ ≡ f i s → turns f (n - i) i s ≡ t → turns f (n - (i + 1)) (i + 1) s′ ≡ t
-  unfolding turns
-  turned n i s s′ t l e h =
-      let k : n - i ≡ suc (n - (i + 1)) = omega arith in
-      ap (turns f (n - (i + 1)) (i + 1)) e ∙ sym (ap (λ (m : ℕ). turns f m i s) k) ∙ h
-
-  pub ended : (n i : ℕ) (s t : S) → n ≤ i → turns f (n - i) i s ≡ t → s ≡ t
-  unfolding turns
-  ended n i s t l h =
-      let k : n - i ≡ 0 = omega arith in
-      sym (ap (λ (m : ℕ). turns f m i s) k) ∙ h
-
--- the step of a loop that stores f i at i
-abbrev pub storing : {A : Type 0} → (ℕ → A) → ℕ → List A → List A
-storing f i xs = set xs i (f i)
-
-pub filled : {A : Type 0} (f : ℕ → A) (d : A) → turns (storing f) 7 0 (replicate 7 d) ≡ seven f
-unfolding turns
-filled f d = refl
+use Rattle.replay.specs.FrameCase.{isOn, hintsAt, allSaved, switchesAt, pocsOf, headerOf, bit, bits, bytes, inI64, putSeven, putSource, putSources, putHead, putFrame}
 
 -- the saved hints h, and their count
 abbrev pub saved : List OrderHint → ℕ → Saved

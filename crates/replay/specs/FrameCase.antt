@@ -2,11 +2,13 @@
 -- the order of include/refmvs.h. Assumes nothing.
 use mathlib.Core.Path.{_≡_}
 use mathlib.Core.Bool.{Bool, false, not}
-use mathlib.Core.List.{List, [], _∷_}
-use Prim.Native.Nat.{ℕ, zero, suc, _+_, _*_, _≤_, _<_, min}
+use mathlib.Core.List.{List, []}
+use Prim.Native.Nat.{ℕ, _+_, _*_, _≤_, _<_, min}
 use lib.IntN.{ℤ, pos, negsuc, natAbs}
 use lib.ListN.{getD, set, replicate}
 use mir.Val.{boolByte}
+use Rattle.loops.specs.Over.{span}
+use Rattle.loops.specs.Seven.{seven}
 use Rattle.intops.specs.Choice.{eqZ}
 use Rattle.levels.specs.declared.OrderHint.{OrderHint}
 use Rattle.picks.specs.declared.Saved.{Saved}
@@ -38,15 +40,6 @@ pub record HeaderFits (n : List ℤ) : Type 0 where
 -- a switch is on where its number is not 0
 unfoldable pub isOn : ℤ → Bool
 isOn z = not (eqZ z (pos 0))
-
--- k turns of the step f, from i on
-unfoldable pub turns : {S : Type 0} → (ℕ → S → S) → ℕ → ℕ → S → S
-turns f zero i s = s
-turns f (suc k) i s = turns f k (i + 1) (f i s)
-
--- f at 0, 1, .., 6
-abbrev pub seven : {A : Type 0} → (ℕ → A) → List A
-seven f = f 0 ∷ f 1 ∷ f 2 ∷ f 3 ∷ f 4 ∷ f 5 ∷ f 6 ∷ []
 
 -- seven hints from the number k on
 unfoldable pub hintsAt : List ℤ → ℕ → List OrderHint
@@ -103,7 +96,7 @@ abbrev pub putting : (ℕ → ℤ) → ℕ → ℕ → List ℤ → List ℤ
 putting f k i o = set o (k + i) (f i)
 
 unfoldable pub putSeven : (ℕ → ℤ) → ℕ → List ℤ → List ℤ
-putSeven f k o = turns (putting f k) 7 0 o
+putSeven f k o = span (putting f k) 0 7 o
 
 -- the elements of an array, as numbers
 abbrev pub bits : List Bool → ℕ → ℤ
@@ -136,7 +129,7 @@ blank =
     }
 
 unfoldable pub putSources : Sources → List ℤ → List ℤ
-putSources s o = turns (λ i. putSource (getD (s .mfmv) i blank) (43 + 32 * i)) 4 0 o
+putSources s o = span (λ i. putSource (getD (s .mfmv) i blank) (43 + 32 * i)) 0 4 o
 
 -- the fields before the slots
 unfoldable pub putHead : Frame → List ℤ → List ℤ

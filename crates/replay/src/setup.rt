@@ -157,7 +157,7 @@ fn header_of(n: &[i64]) -> Header
     }
 }
 
-// A line's numbers are i64: each field of the record has its function here.
+// A line's numbers are i64: one function for each type that a field of the record has.
 fn of_bool(v: bool) -> i64
     ensures { λ r. ⌜ r ≡ bit v ⌝ }
 {

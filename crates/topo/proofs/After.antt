@@ -3,42 +3,38 @@ use mathlib.Core.Path.{_≡_, refl, sym, ap, _∙_}
 use mathlib.Core.List.{List}
 use mathlib.Core.Bool.{Bool, true, false, cond}
 use mathlib.Core.Logic.{_⊎_, inl, inr, ⊎-elim}
-use Prim.Native.Nat.{ℕ, zero, suc, _+_, _-_, _<_, _≤_}
+use Prim.Native.Nat.{ℕ, zero, suc, _+_, _<_, _≤_}
 use native.Mathlib.Omega.{arith}
 use lib.Dec.{ltb, eqb}
 use borrow.Author.Tests.{ltb-true, ltb-false, eqb-true}
-use Rattle.loops.specs.Over.{over, span}
+use Rattle.loops.specs.Over.{span}
+use Rattle.loops.proofs.Keeps.{span-in, span-to}
+use Rattle.levels.specs.declared.Slot.{Slot}
+use Rattle.levels.specs.Slots.{slotAt, Stands}
 use Rattle.topo.specs.declared.Order.{Order}
 use Rattle.topo.specs.Topo.{reference, free, marked, placed, link, enter, noOrder, ordered}
 use Rattle.topo.proofs.Laws.{marked-less, whole}
-use Rattle.topo.specs.Theorems.{slotAt, Stands, RefersTo, Reaches, direct, through, AfterReferences}
+use Rattle.topo.specs.Theorems.{RefersTo, Reaches, direct, through, AfterReferences}
 use Rattle.loops.proofs.Counting.{is-or}
 use Rattle.topo.proofs.Perm.{placeOf, Good, Run, runs, run-refl, run-trans, run-good, mark-good, entered, last-at, before-last, none-good}
 
 -- each reference of a slot in the order stands before it, or refers back to it: a circle
-abbrev After : List ℕ → Order → Type 0
-After g o = (k x : ℕ) → k < o .count → RefersTo g (slotAt o k) x → Stands o k x ⊎ Reaches g x (slotAt o k)
-
--- a fold whose steps know where they are
-over-in : {S : Type 0} (P : ℕ → S → Type 0) (f : ℕ → S → S) (b : ℕ) → ((p : ℕ) (s : S) → p < b → P p s → P (p + 1) (f p s))
-    → (n p q : ℕ) (s : S) → p + n ≡ q → q ≤ b → P p s → P q (over f 1 n p s)
-unfolding over
-over-in P f b st zero p q s e l h = let w : p ≡ q = omega arith in rw w at h
-over-in P f b st (suc n) p q s e l h = over-in P f b st n (p + 1) q (f p s) (omega arith) l (st p s (omega arith) h)
+abbrev After : List Slot → Order → Type 0
+After g o = (k x : ℕ) → k < o .count → RefersTo g (slotAt (o .list) k) x → Stands (o .list) k x ⊎ Reaches g x (slotAt (o .list) k)
 
 -- what a step to a slot does: its order stands, and the slot is entered
-abbrev Steps : List ℕ → ℕ → (ℕ → Order → Order) → Type 1
+abbrev Steps : List Slot → ℕ → (ℕ → Order → Order) → Type 1
 Steps g d go =
     (S : ℕ → Type 0) (k : ℕ) (s : Order) → k < 7 → Good S s → After g s → free (s .place) ≤ d → ((j : ℕ) → S j → Reaches g j k)
     → After g (go k s) × (placeOf (go k s) k ≡ 7 → ⊥)
 
 -- while the references of slot i are entered
-record Turn (g : List ℕ) (S : ℕ → Type 0) (i : ℕ) (m : Order) (p : ℕ) (s : Order) : Type 0 where
+record Turn (g : List Slot) (S : ℕ → Type 0) (i : ℕ) (m : Order) (p : ℕ) (s : Order) : Type 0 where
   run : Run S m s
   aft : After g s
   seen : (n : ℕ) → n < p → reference g i n < 7 → placeOf s (reference g i n) ≡ 7 → ⊥
 
-module _ (g : List ℕ) (d : ℕ) (S : ℕ → Type 0) (i : ℕ) (o : Order) (st : Steps g d (enter d g)) (h : i < 7) (gd : Good S o) (af : After g o)
+module _ (g : List Slot) (d : ℕ) (S : ℕ → Type 0) (i : ℕ) (o : Order) (st : Steps g d (enter d g)) (h : i < 7) (gd : Good S o) (af : After g o)
     (fr : free (o .place) ≤ suc d) (re : (j : ℕ) → S j → Reaches g j i) (z : placeOf o i ≡ 7) where
   abbrev S′ : ℕ → Type 0
   S′ j = (j ≡ i) ⊎ S j
@@ -70,10 +66,9 @@ module _ (g : List ℕ) (d : ℕ) (S : ℕ → Type 0) (i : ℕ) (o : Order) (st
       }
 
   turns : Turn g S′ i (marked i o) 7 (span (link (enter d g) g i) 0 7 (marked i o))
-  unfolding span
   turns =
-      over-in (Turn g S′ i (marked i o)) (link (enter d g) g i) 7 (λ p s l t. turn-go p s (ltb (reference g i p) 7) l refl t) (7 - 0) 0 7 (marked i o) refl (omega arith)
-      (record { run = run-refl mg; aft = λ k x l r. ⊎-elim (λ (y : Stands o k x). inl (record { at = y .at; below = y .below; is = y .is })) (λ y. inr y) (af k x l r); seen = λ n a. absurd (omega arith) })
+      span-to (Turn g S′ i (marked i o)) (link (enter d g) g i) 7 (λ p s l t. turn-go p s (ltb (reference g i p) 7) l refl t) (marked i o)
+      (record { run = run-refl mg; aft = af; seen = λ n a. absurd (omega arith) })
 
   placed-after : After g (whole (enter d g) g i o)
   placed-after k x l r =
@@ -81,41 +76,39 @@ module _ (g : List ℕ) (d : ℕ) (S : ℕ → Type 0) (i : ℕ) (o : Order) (st
       let gr = t .run .grows in let ad = t .run .adds in
       is-or k (s .count)
       (λ q.
-      let la : slotAt (placed i s) k ≡ i = ap (slotAt (placed i s)) q ∙ last-at i o s h (gd .space) z gr ad in
+      let la : slotAt (placed i s .list) k ≡ i = ap (slotAt (placed i s .list)) q ∙ last-at i o s h (gd .space) z gr ad in
       let to : RefersTo g i x = rw la at r in
       let ne : placeOf s x ≡ 7 → ⊥ = λ v. t .seen (to .which) (to .below) (rw (to .is) (to .some)) (ap (placeOf s) (to .is) ∙ v) in
       ⊎-elim
-      (λ (y : Stands s (s .count) x). inl (record { at = y .at; below = omega (arith, y .below); is = before-last i o s h (gd .space) z gr ad (y .at) (y .below) ∙ y .is }))
+      (λ (y : Stands (s .list) (s .count) x). inl (record { at = y .at; below = omega (arith, y .below); is = before-last i o s h (gd .space) z gr ad (y .at) (y .below) ∙ y .is }))
       (λ y. inr (rw la (⊎-elim (λ (v : x ≡ i). rw v (direct (rw v at to))) (λ v. re x v) y)))
       (t .run .every x (to .some) ne))
       (λ q.
       let b : k < s .count = omega arith in
       let bl = before-last i o s h (gd .space) z gr ad k b in
       ⊎-elim
-      (λ (y : Stands s k x). inl (record { at = y .at; below = y .below; is = before-last i o s h (gd .space) z gr ad (y .at) (omega (arith, y .below)) ∙ y .is }))
+      (λ (y : Stands (s .list) k x). inl (record { at = y .at; below = y .below; is = before-last i o s h (gd .space) z gr ad (y .at) (omega (arith, y .below)) ∙ y .is }))
       (λ y. inr (rw bl y))
       (t .aft k x b (rw bl at r)))
 
-step-go : (g : List ℕ) (d : ℕ) (S : ℕ → Type 0) (i : ℕ) (o : Order) → Steps g d (enter d g) → i < 7 → Good S o → After g o → free (o .place) ≤ suc d → ((j : ℕ) → S j → Reaches g j i)
+step-go : (g : List Slot) (d : ℕ) (S : ℕ → Type 0) (i : ℕ) (o : Order) → Steps g d (enter d g) → i < 7 → Good S o → After g o → free (o .place) ≤ suc d → ((j : ℕ) → S j → Reaches g j i)
     → (t : Bool) → eqb (placeOf o i) 7 ≡ t → After g (cond t (whole (enter d g) g i o) o)
 step-go g d S i o st h gd af fr re false e = af
 step-go g d S i o st h gd af fr re true e = placed-after g d S i o st h gd af fr re (eqb-true _ _ e)
 
-steps : (d : ℕ) (g : List ℕ) → Steps g d (enter d g)
+steps : (d : ℕ) (g : List Slot) → Steps g d (enter d g)
 unfolding enter
 steps zero g S i o h gd af fr re = (af, λ (v : placeOf o i ≡ 7). omega (arith, marked-less i o h (gd .space .base) v))
 steps (suc d) g S i o h gd af fr re =
     (step-go g d S i o (steps d g) h gd af fr re (eqb (placeOf o i) 7) refl, entered d g S i o h gd)
 
-all-after : (g : List ℕ) (k p : ℕ) (o : Order) → p + k ≤ 7 → Good (λ (j : ℕ). ⊥) o → After g o → After g (over (enter 7 g) 1 k p o)
-unfolding over
-all-after g zero p o a gd af = af
-all-after g (suc k) p o a gd af =
-    let r = runs 7 g (λ (j : ℕ). ⊥) p o (omega arith) gd in
-    all-after g k (p + 1) (enter 7 g p o) (omega arith) (run-good r (gd .space))
-    (steps 7 g (λ (j : ℕ). ⊥) p o (omega arith) gd af (omega (arith, gd .space .base .room)) (λ j b. absurd b) .0)
-
 -- in the dependency order a slot stands after its references, circles apart
 pub after-references : AfterReferences
-unfolding ordered span
-after-references g n k y h = all-after g (n - 0) 0 noOrder (omega arith) none-good (λ k x l. absurd (omega arith)) k y
+unfolding ordered
+after-references g n k y h =
+    span-in (λ (o : Order). Good (λ (j : ℕ). ⊥) o × After g o) (enter 7 g) n
+    (λ p o l w. (
+      run-good (runs 7 g (λ (j : ℕ). ⊥) p o (omega arith) (w .0)) (w .0 .space),
+      steps 7 g (λ (j : ℕ). ⊥) p o (omega arith) (w .0) (w .1) (omega (arith, w .0 .space .base .room)) (λ j b. absurd b) .0,
+    ))
+    noOrder (none-good, λ k x l. absurd (omega arith)) .1 k y

@@ -5,25 +5,26 @@ use mathlib.Core.List.{List}
 use Prim.Native.Nat.{ℕ, zero, suc, _<_, _≤_}
 use native.Mathlib.Omega.{arith}
 use lib.Dec.{ltb, eqb}
-use lib.ListN.{getD, replicate}
+use lib.ListN.{getD}
 use borrow.Author.Tests.{ltb-true}
 use Rattle.loops.specs.Over.{span}
 use Rattle.loops.proofs.Keeps.{set-has, span-in}
+use Rattle.loops.proofs.Slots.{zeros}
 use Rattle.levels.specs.declared.Slot.{Slot}
+use Rattle.levels.specs.Slots.{slot, slotAt}
 use Rattle.topo.specs.declared.Order.{Order}
-use Rattle.topo.specs.Topo.{slot, reference, marked, link, enter, noOrder, ordered}
-use Rattle.topo.specs.Theorems.{slotAt}
+use Rattle.topo.specs.Topo.{reference, marked, link, enter, noOrder, ordered}
 use Rattle.topo.proofs.Laws.{Room, grown, grown-room, none-room, whole}
 
 -- every slot of the list is below b
 abbrev pub Below : ℕ → Order → Type 0
-Below b o = (k : ℕ) → slotAt o k < b
+Below b o = (k : ℕ) → slotAt (o .list) k < b
 
 -- the references of the slots below b are below b, or none
-abbrev pub Closed : ℕ → List ℕ → Type 0
+abbrev pub Closed : ℕ → List Slot → Type 0
 Closed b g = (i m : ℕ) → i < b → m < 7 → reference g i m < 7 → reference g i m < b
 
-module _ (b : ℕ) (g : List ℕ) (cl : Closed b g) where
+module _ (b : ℕ) (g : List Slot) (cl : Closed b g) where
   abbrev Keeps : (ℕ → Order → Order) → Type 0
   Keeps go = (k : ℕ) (s : Order) → k < b → Below b s → Below b (go k s)
 
@@ -44,20 +45,15 @@ module _ (b : ℕ) (g : List ℕ) (cl : Closed b g) where
   enter-below zero i o l h = h
   enter-below (suc d) i o l h = below-go (enter d g) i o (eqb (getD (o .place) i 0) 7) l (enter-below d) h
 
-  zeros : (n k : ℕ) → 0 < b → getD (replicate n (slot 0)) k (slot 0) .0 < b
-  zeros zero k h = h
-  zeros (suc n) zero h = h
-  zeros (suc n) (suc k) h = zeros n k h
-
   pub ordered-below : (n : ℕ) → n ≤ b → 0 < b → Below b (ordered g n)
   unfolding ordered
-  ordered-below n h z = span-in (Below b) (enter 7 g) n (λ p s l k. enter-below 7 p s (omega arith) k) noOrder (λ k. zeros 7 k z)
+  ordered-below n h z = span-in (Below b) (enter 7 g) n (λ p s l k. enter-below 7 p s (omega arith) k) noOrder (λ k. zeros b 7 k z)
 
 -- every slot of the list is a slot
-pub ordered-small : (g : List ℕ) (n : ℕ) → n ≤ 7 → (k : ℕ) → getD (ordered g n .list) k (slot 0) .0 < 7
+pub ordered-small : (g : List Slot) (n : ℕ) → n ≤ 7 → (k : ℕ) → slotAt (ordered g n .list) k < 7
 ordered-small g n h = ordered-below 7 g (λ i m l lm s. s) n h (omega arith)
 
 -- and there is room for those that are not entered
-pub ordered-room : (g : List ℕ) (n : ℕ) → n ≤ 7 → Room (ordered g n)
+pub ordered-room : (g : List Slot) (n : ℕ) → n ≤ 7 → Room (ordered g n)
 unfolding ordered
 ordered-room g n h = span-in Room (enter 7 g) n (λ p s l k. grown-room (grown 7 g p s (omega arith) k) k) noOrder none-room

@@ -7,15 +7,12 @@ use lib.ListN.{set, getD, replicate}
 use mir.Val.{boolByte}
 use Rattle.loops.specs.Over.{span}
 use Rattle.levels.specs.declared.Slot.{Slot}
+use Rattle.levels.specs.Slots.{slot, slotAt}
 use Rattle.topo.specs.declared.Order.{Order}
 
--- the slot of a number
-abbrev pub slot : ℕ → Slot
-slot i = record { 0 = i }
-
--- reference n of slot i, by the table of all references, seven to a slot: its slot, or 7 for none ("A slot with reference count 0 has none": seven times 7)
-abbrev pub reference : List ℕ → ℕ → ℕ → ℕ
-reference links i n = getD links (i * 7 + n) 0
+-- reference n of slot i, by the table of all links, seven to a slot: the number of its slot, or 7 for none ("A slot with reference count 0 has none": seven times 7)
+abbrev pub reference : List Slot → ℕ → ℕ → ℕ
+reference links i n = slotAt links (i * 7 + n)
 
 -- how many slots are not yet entered: their place is 7, as it is -1 in `topo_insert`
 unfoldable pub free : List ℕ → ℕ
@@ -32,12 +29,12 @@ placed i o =
     record { list = set (o .list) (o .count) (slot i); place = set (o .place) i (o .count); count = o .count + 1 }
 
 -- reference n of slot i is entered, if there is one; `go` enters a slot
-abbrev pub link : (ℕ → Order → Order) → List ℕ → ℕ → ℕ → Order → Order
+abbrev pub link : (ℕ → Order → Order) → List Slot → ℕ → ℕ → Order → Order
 link go links i n o = cond (ltb (reference links i n) 7) (go (reference links i n) o) o
 
 -- "A slot's own references are entered before the slot itself, depth first, references 0 to 6, and a slot already entered is passed over."
 -- To a depth of d: 7 is deep enough, as no more than seven slots are entered (`DeepEnough`)
-unfoldable pub enter : ℕ → List ℕ → ℕ → Order → Order
+unfoldable pub enter : ℕ → List Slot → ℕ → Order → Order
 enter zero links i o = o
 enter (suc d) links i o =
     cond (eqb (getD (o .place) i 0) 7)
@@ -49,5 +46,5 @@ abbrev pub noOrder : Order
 noOrder = record { list = replicate 7 (slot 0); place = replicate 7 7; count = 0 }
 
 -- the dependency order of the first n slots, the slots in use: they are entered in slot order, as in `init_frame`
-unfoldable pub ordered : List ℕ → ℕ → Order
+unfoldable pub ordered : List Slot → ℕ → Order
 ordered links n = span (enter 7 links) 0 n noOrder

@@ -3,6 +3,7 @@ ghost use mathlib.Core.Path.{_≡_};
 ghost use Prim.Native.Nat.{_+_, _≤_, _<_};
 ghost use Rattle.topo.specs.Topo.{free, enter, ordered};
 use levels::Slot;
+use levels::slot_index;
 
 // The slots in the order in which they were entered, where each stands (7: not entered), and how many there are.
 pub struct Order {
@@ -11,12 +12,12 @@ pub struct Order {
     pub count: usize,
 }
 
-// Enters a slot, its references first. `links` has the references of each slot, seven to a slot, 7 for none.
-pub fn topo_insert(o: Order, links: &[u8; 49], slot: Slot) -> Order
+// Enters a slot, its references first. `links` has the references of each slot, seven to a slot, NO_LINK for none.
+pub fn topo_insert(o: Order, links: [Slot; 49], slot: Slot) -> Order
     requires { ⌜ (slot .0 < 7) × (o .count + free (o .place) ≤ 7) ⌝ }
-    ensures { λ r. ⌜ r ≡ enter 7 (now (links .entry)) (slot .0) o ⌝ }
+    ensures { λ r. ⌜ r ≡ enter 7 links (slot .0) o ⌝ }
 {
-    let at = slot.0 as usize;
+    let at = slot_index(slot);
     let mut st = o;
     let p = st.place[at];
     if p != 7 {
@@ -26,11 +27,11 @@ pub fn topo_insert(o: Order, links: &[u8; 49], slot: Slot) -> Order
     let mut n: usize = 0;
     while n < 7 {
         let r = links[at * 7 + n];
-        if r < 7 {
-            let k = r as usize;
+        if r.0 < 7 {
+            let k = slot_index(r);
             let q = st.place[k];
             if q == 7 {
-                st = topo_insert(st, links, Slot(r));
+                st = topo_insert(st, links, r);
             }
         }
         n += 1;
@@ -43,9 +44,9 @@ pub fn topo_insert(o: Order, links: &[u8; 49], slot: Slot) -> Order
 }
 
 // The order of the first n slots.
-pub fn topo_order(links: &[u8; 49], n: usize) -> Order
+pub fn topo_order(links: [Slot; 49], n: usize) -> Order
     requires { ⌜ n ≤ 7 ⌝ }
-    ensures { λ r. ⌜ r ≡ ordered (now (links .entry)) n ⌝ }
+    ensures { λ r. ⌜ r ≡ ordered links n ⌝ }
 {
     let list = [Slot(0); 7];
     let place = [7u8; 7];

@@ -276,6 +276,18 @@ fn sort_traps() -> Vec<Trap> {
         trap("earlier neighbour nearer", near(8, 11), |f| {
             sources(f)[..2] == [(1, 1), (0, 0)]
         }),
+        // A search from 31 would find neither, and put the later neighbour first.
+        trap(
+            "nearest references past 31",
+            slots(8, 100, &[110, 90]).refs(0, &[77]).refs(1, &[122]),
+            |f| sources(f)[..2] == [(1, 1), (0, 0)],
+        ),
+        // The later neighbour's reference is not before the frame: it has none, which is farther than 128.
+        trap(
+            "nearest reference 128 away",
+            slots(8, 100, &[101, 99]).refs(0, &[100]).refs(1, &[227]),
+            |f| sources(f)[..2] == [(1, 1), (0, 0)],
+        ),
     ]
 }
 
@@ -515,8 +527,7 @@ pub fn accepted() -> Header {
 
 /// Accepted, at a limit or just where the TIP pair is not looked at.
 pub fn at_limits() -> Vec<Header> {
-    let past = accepted().tip([-1, 3]);
-    let ways: [Way; 17] = [
+    let limits: &[Way] = &[
         |h| h.order_hint_n_bits = 0,
         |h| h.order_hint_n_bits = 8,
         |h| h.n_ref_frames = 0,
@@ -535,16 +546,17 @@ pub fn at_limits() -> Vec<Header> {
         |h| *h = h.tip([2, 0]),
         |h| *h = h.tip([0, 2]),
     ];
-    let unseen: [Way; 5] = [
+    let unseen: &[Way] = &[
         |h| h.tip = 0,
         |h| h.use_ref_frame_mvs = 0,
         |h| h.order_hint_n_bits = 0,
         |h| h.n_ref_frames = 1,
         |h| h.n_ref_frames = 0,
     ];
-    let limits = ways.map(|way| changed(accepted(), &[way]));
-    let unseen = unseen.map(|way| changed(past, &[way]));
-    limits.into_iter().chain(unseen).collect()
+    let past = accepted().tip([-1, 3]);
+    each_alone(accepted(), limits)
+        .chain(each_alone(past, unseen))
+        .collect()
 }
 
 pub fn changed(mut header: Header, ways: &[Way]) -> Header {
@@ -552,20 +564,25 @@ pub fn changed(mut header: Header, ways: &[Way]) -> Header {
     header
 }
 
+/// The header changed in each of the ways alone.
+fn each_alone(header: Header, ways: &[Way]) -> impl Iterator<Item = Header> + '_ {
+    ways.iter().map(move |&way| changed(header, &[way]))
+}
+
 /// Refused by the number, each way alone.
 pub fn past_limits() -> Vec<(u32, Header)> {
-    let ways = WAYS.iter().flat_map(|&(number, ways)| {
-        let refused = move |&way: &Way| (number, changed(accepted(), &[way]));
-        ways.iter().map(refused)
-    });
     // A mode makes the pair looked at whatever else is off, and then no slot may be named without one.
-    let mode_alone: [Way; 3] = [
+    let mode_alone: &[Way] = &[
         |h| (h.tip, h.use_ref_frame_mvs) = (0, 0),
         |h| h.order_hint_n_bits = 0,
         |h| (h.n_ref_frames, h.tip_reference) = (0, [0, 0]),
     ];
-    let refused = mode_alone.map(|way| (8, changed(accepted().mode([-1, 0]), &[way])));
-    ways.chain(refused).collect()
+    let mut all = Vec::new();
+    for (number, ways) in WAYS {
+        all.extend(each_alone(accepted(), ways).map(|header| (number, header)));
+    }
+    all.extend(each_alone(accepted().mode([-1, 0]), mode_alone).map(|header| (8, header)));
+    all
 }
 
 /// Two refusals or more, each in every way, and the first one's number.

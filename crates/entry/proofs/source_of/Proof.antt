@@ -22,8 +22,8 @@ near-is c =
     let e : natAbs d ≤ 31 = omega (arith, abs-is (c .before), c .if1 .left) in
     (f, omega (signed, ud d), e)
 
-cast-at : tie.Need-cast-at
-cast-at c = search needs
+slot-index-requires : tie.Need-slot-index-requires
+slot-index-requires c κs = search needs
 
 element-copy-out-a : tie.Need-element-copy-out-a
 element-copy-out-a c = search needs
@@ -42,7 +42,7 @@ unfolding sourceOf
 returns c =
     let e = abs-is (c .before .before) in let k = c .before .before .before .poc-diff .ensures in
     let h = c .before .if1 .taken in
-    rw (← k, lt-ltb _ _ (rw e at h)) (c .blank .ensures)
+    rw (← rw (c .before .before .before .before .before .before .slot-index .ensures) at k, lt-ltb _ _ (rw e at h)) (c .blank .ensures)
 
 mul-s : tie.Need-mul-s
 mul-s c = search needs
@@ -76,13 +76,13 @@ returns-2 c =
     let t : SFits w8 (o .before .before .before .before .before .before .before .args .p .tgt) = search needs in
     let k = o .before .before .poc-diff .ensures in
     let x = simp back at (c .before .before .factors .ensures) in let y = simp back at (c .before .factors2 .ensures) in
-    rw (← k, le-ltb _ _ e) (simp back (rw (y, x, c .before .before .before .ref2idx-of .ensures, c .before .before .before .before .ref2ref-of .ensures)))
+    rw (← o .before .before .before .before .before .slot-index .ensures, ← k, le-ltb _ _ e) (simp back (rw (y, x, c .before .before .before .ref2idx-of .ensures, c .before .before .before .before .ref2ref-of .ensures)))
 
 pub source-of-spec : {M : Type 1} → statement M
 source-of-spec =
     tie.close
     (tie.spec
-    cast-at
+    slot-index-requires
     element-copy-out-a
     poc-diff-requires
     unsigned-abs-requires

@@ -1,5 +1,4 @@
 -- `frame::bad_size` meets its contract. Assumes nothing.
-use Prim.Native.Nat.{_-_}
 use borrow.Author.Tests.{eq-eqb, ne-eqb}
 use Rattle.frame.specs.Frame.{badSize}
 use Rattle.frame.proofs.bad_size.Statement.{statement}

@@ -21,14 +21,14 @@ loop-holds c = let e : c .args .n - 0 ≡ c .args .n = omega arith in (omega ari
 array-copy-out-s : tie.Need-array-copy-out-s Inv-loop μ-loop
 array-copy-out-s c = omega arith
 
-cast-b : tie.Need-cast-b Inv-loop μ-loop
-cast-b c = search needs
+slot-index-requires : tie.Need-slot-index-requires Inv-loop μ-loop
+slot-index-requires c κs = search needs
 
 array-read-b : tie.Need-array-read-b Inv-loop μ-loop
-array-read-b c = c .before .before .before .before .pre .1 _
+array-read-b c = omega (arith, c .slot-index .ensures, c .before .before .before .before .pre .1 (c .before .before .before .loop .l))
 
 returns : tie.Need-returns Inv-loop μ-loop
-returns c = lead-here _ _ (c .before .before .before .before .before .args .n) (c .before .before .before .before .loop .l) (c .before .before .before .loop-test .taken) (not-true _ (c .if1 .taken)) ∙ c .before .before .before .before .loop .inv .1
+returns c = lead-here _ _ (c .before .before .before .before .before .args .n) (c .before .before .before .before .loop .l) (c .before .before .before .loop-test .taken) (not-true _ (rw (c .before .slot-index .ensures) at (c .if1 .taken))) ∙ c .before .before .before .before .loop .inv .1
 
 add-l : tie.Need-add-l Inv-loop μ-loop
 add-l c = omega arith
@@ -37,7 +37,7 @@ loop-less : tie.Need-loop-less Inv-loop μ-loop
 loop-less c = omega arith
 
 loop-again : tie.Need-loop-again Inv-loop μ-loop
-loop-again c = (omega arith, lead-next _ _ (c .before .before .before .before .before .args .n) (c .before .before .before .before .loop .l) (c .before .before .before .loop-test .taken) (not-false _ (c .if1 .left)) ∙ c .before .before .before .before .loop .inv .1)
+loop-again c = (omega arith, lead-next _ _ (c .before .before .before .before .before .args .n) (c .before .before .before .before .loop .l) (c .before .before .before .loop-test .taken) (not-false _ (rw (c .before .slot-index .ensures) at (c .if1 .left))) ∙ c .before .before .before .before .loop .inv .1)
 
 returns-2 : tie.Need-returns-2 Inv-loop μ-loop
 returns-2 c = lead-end _ _ (c .before .before .args .n) (c .before .loop .l) (c .loop-test .left) ∙ c .before .loop .inv .1
@@ -50,7 +50,7 @@ first-later-spec =
     μ-loop
     loop-holds
     array-copy-out-s
-    cast-b
+    slot-index-requires
     array-read-b
     returns
     add-l

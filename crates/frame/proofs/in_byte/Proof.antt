@@ -1,5 +1,4 @@
 -- `frame::in_byte` meets its contract. Assumes nothing.
-use Prim.Native.Nat.{_-_}
 use borrow.Author.Tests.{lt-ltb, le-ltb}
 use lib.IntN.{pos}
 use mir.Val.{SFits}

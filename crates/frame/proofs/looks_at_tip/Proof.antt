@@ -1,5 +1,4 @@
 -- `frame::looks_at_tip` meets its contract. Assumes nothing.
-use Prim.Native.Nat.{_-_}
 use borrow.Author.Tests.{eq-eqb, ne-eqb}
 use borrow.Author.Tests.{not-true, not-false}
 use Rattle.frame.specs.Frame.{looksAtTip}

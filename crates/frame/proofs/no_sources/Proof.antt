@@ -1,5 +1,4 @@
 -- `frame::no_sources` meets its contract. Assumes nothing.
-use Prim.Native.Nat.{_-_}
 use borrow.Author.Needs.{needs}
 use Rattle.frame.proofs.no_sources.Statement.{statement}
 use Rattle.frame.proofs.no_sources.Tie as tie

@@ -1,5 +1,4 @@
 -- `frame::not_in_use` meets its contract. Assumes nothing.
-use Prim.Native.Nat.{_-_}
 use Rattle.intops.proofs.Signed.{back, signed}
 use Rattle.frame.specs.Frame.{notInUse}
 use Rattle.intops.proofs.Signed.{ud}

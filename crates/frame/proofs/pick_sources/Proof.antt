@@ -18,7 +18,7 @@ abbrev at-topo : tie.After-start → tie.After-topo-order
 at-topo c = c .before .before .before
 
 abbrev at-first : tie.After-topo-order → tie.After-first-later
-at-first c = c .before .before .before
+at-first c = c .before .before
 
 -- the sorted slots are slots, and the first later one stands at 7 at most
 ord : (c : tie.After-sort-slots) → Slots (c .sort-slots .result)
@@ -58,7 +58,7 @@ pick-nearest-requires c κs = let f = at-first (at-topo (c .before .before)) in 
 
 pick-rest-requires : tie.Need-pick-rest-requires
 pick-rest-requires c κs =
-    let t = at-topo (at-start c) in let l = t .before .before .links-of .result in
+    let t = at-topo (at-start c) in let l = t .before .links-of .result in
     let s = at-first t .before .before in let n = s .args .h .«n_refs» in
     (rw (t .topo-order .ensures) (omega (arith, ordered-room l n (s .pre .1))), rw (t .topo-order .ensures) (ordered-small l n (s .pre .1)))
 
@@ -66,8 +66,8 @@ returns : tie.Need-returns
 returns c =
     let b = c .before in let a = at-start b in let t = at-topo a in let f = at-first t in let s = f .before .before in
     picked-is (s .args .h) (s .args .present) (s .args .tip) (s .args .a) (s .args .b) (s .args .sign) (s .args .diff) (f .before .sort-slots .result)
-    (f .first-later .result) (t .before .before .links-of .result) (t .topo-order .result) _ _ _ _ _ (s .pre .4) (s .pre .5) (f .before .sort-slots .ensures)
-    (f .first-later .ensures) (t .before .before .links-of .ensures) (t .topo-order .ensures) (a .start .ensures) (b .before .before .tip-source .ensures)
+    (f .first-later .result) (t .before .links-of .result) (t .topo-order .result) _ _ _ _ _ (s .pre .4) (s .pre .5) (f .before .sort-slots .ensures)
+    (f .first-later .ensures) (t .before .links-of .ensures) (t .topo-order .ensures) (a .start .ensures) (b .before .before .tip-source .ensures)
     (b .before .pick-neighbours .ensures) (b .pick-nearest .ensures) (c .pick-rest .ensures)
 
 pub pick-sources-spec : {M : Type 1} → statement M

@@ -1,5 +1,4 @@
 -- `frame::slot_of` meets its contract. Assumes nothing.
-use Prim.Native.Nat.{_-_}
 use Rattle.intops.proofs.Signed.{back, signed}
 use Rattle.frame.specs.Frame.{slotOf}
 use Rattle.intops.proofs.Signed.{ud}

@@ -1,5 +1,4 @@
 -- `frame::tip_of` meets its contract. Assumes nothing.
-use Prim.Native.Nat.{_-_}
 use borrow.Author.Tests.{eq-eqb}
 use lib.IntN.{pos}
 use lib.ListN.{getD}
@@ -20,14 +19,14 @@ returns c = rw (eq-eqb _ _ (c .if1 .taken))
 tip-diff-requires : tie.Need-tip-diff-requires
 tip-diff-requires c κs = search needs
 
-cast-x : tie.Need-cast-x
-cast-x c = search needs
+slot-index-requires : tie.Need-slot-index-requires
+slot-index-requires c κs = search needs
 
 array-copy-out-x : tie.Need-array-copy-out-x
 array-copy-out-x c = search needs
 
-cast-y : tie.Need-cast-y
-cast-y c = search needs
+slot-index-requires-2 : tie.Need-slot-index-requires-2
+slot-index-requires-2 c κs = search needs
 
 array-copy-out-y : tie.Need-array-copy-out-y
 array-copy-out-y c = search needs
@@ -55,12 +54,12 @@ returns-2 c =
     let b = c .before .before in let y = b .before .before in let x = y .before .before in let t = x .before .before in
     let s = t .before .before in let a = s .args in let d = t .tip-diff .result in let ds = a .t6 in
     let f : SFits w32 d = search needs in
-    let u : SFits w8 (getD ds (a .a .0) (pos 0)) = record { sfits = x .x .given } in
-    let v : SFits w8 (getD ds (a .b .0) (pos 0)) = record { sfits = y .y .given } in
+    let u : SFits w8 (getD ds (x .before .slot-index .result) (pos 0)) = record { sfits = x .x .given } in
+    let v : SFits w8 (getD ds (y .before .slot-index2 .result) (pos 0)) = record { sfits = y .y .given } in
     let i : SFits w8 (b .in-byte .result) = search needs in
     let p : SFits w32 (c .before .ratio .result) = search needs in let q : SFits w32 (c .ratio2 .result) = search needs in
     simp back (tip-is (a .h) (a .mode) (a .both) (a .a) (a .b) d ds _ _ _ _ (t .before .if1 .left) (t .tip-diff .ensures) (s .pre .3)
-    (simp back at (b .before .unsigned-abs .ensures)) (b .in-byte .ensures) (simp back at (c .before .ratio .ensures)) (simp back at (c .ratio2 .ensures)))
+    (simp back at (b .before .unsigned-abs .ensures)) (b .in-byte .ensures) (rw (x .before .slot-index .ensures) at (simp back at (c .before .ratio .ensures))) (rw (y .before .slot-index2 .ensures) at (simp back at (c .ratio2 .ensures))))
 
 pub tip-of-spec : {M : Type 1} → statement M
 tip-of-spec =
@@ -68,9 +67,9 @@ tip-of-spec =
     (tie.spec
     returns
     tip-diff-requires
-    cast-x
+    slot-index-requires
     array-copy-out-x
-    cast-y
+    slot-index-requires-2
     array-copy-out-y
     unsigned-abs-requires
     in-byte-requires

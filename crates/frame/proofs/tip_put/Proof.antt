@@ -1,28 +1,23 @@
 -- `frame::tip_put` meets its contract. Assumes nothing.
-use mathlib.Core.Bool.{Bool, true, false}
-use Prim.Native.Nat.{_-_, _≤_}
 use native.Mathlib.Omega.{arith}
 use lib.IntN.{pos}
 use mir.Syntax.{w32}
 use mir.Val.{SFits}
+use Rattle.loops.proofs.Counting.{byte-one}
 use Rattle.intops.proofs.Signed.{back, signed}
 use Rattle.frame.specs.Frame.{tipPut}
 use mir.Syntax.{w8}
-use mir.Val.{boolByte, toZ, ofZ}
+use mir.Val.{toZ, ofZ}
 use lib.Signed.{ltZ}
 use borrow.Author.Needs.{needs}
 use Rattle.frame.proofs.tip_put.Statement.{statement}
 use Rattle.frame.proofs.tip_put.Tie as tie
 
-byte-one : (b : Bool) → boolByte b ≤ 1
-byte-one true = omega arith
-byte-one false = omega arith
+slot-index-requires : tie.Need-slot-index-requires
+slot-index-requires c κs = search needs
 
-cast-x : tie.Need-cast-x
-cast-x c = search needs
-
-cast-y : tie.Need-cast-y
-cast-y c = search needs
+slot-index-requires-2 : tie.Need-slot-index-requires-2
+slot-index-requires-2 c κs = search needs
 
 element-copy-out-a : tie.Need-element-copy-out-a
 element-copy-out-a c = search needs
@@ -55,21 +50,25 @@ add-q : tie.Need-add-q
 add-q c = omega (arith, byte-one (ltZ (toZ w32 (ofZ w32 (c .before .poc-diff .result))) (pos 0)))
 
 element-write-q : tie.Need-element-write-q
-element-write-q c = omega (arith, byte-one (ltZ (toZ w32 (ofZ w32 (c .before .poc-diff .result))) (pos 0)), c .before .before .before .before .before .before .pre)
+element-write-q c = omega (arith, byte-one (ltZ (toZ w32 (ofZ w32 (c .before .poc-diff .result))) (pos 0)), c .before .before .before .before .before .slot-index .ensures, c .before .before .before .before .before .before .pre)
 
 add-q-2 : tie.Need-add-q-2
 add-q-2 c = search needs
 
 returns : tie.Need-returns
 unfolding tipPut
-returns c = let g = c .before .poc-diff in let f : SFits w32 (g .result) = search needs in let k : SFits w8 (pos (c .before .before .before .before .before .before .args .t .0)) = omega (signed, c .before .before .before .before .before .before .pre) in rw (← g .ensures) (simp back)
+returns c =
+    let g = c .before .poc-diff in let i = c .before .before .before .before .before .slot-index .ensures in let j = c .before .before .before .before .slot-index2 .ensures in
+    let f : SFits w32 (g .result) = search needs in
+    let k : SFits w8 (pos (c .before .before .before .before .before .before .args .t .0)) = omega (signed, c .before .before .before .before .before .before .pre) in
+    rw (i, ← rw (i, j) at (g .ensures)) (simp back)
 
 pub tip-put-spec : {M : Type 1} → statement M
 tip-put-spec =
     tie.close
     (tie.spec
-    cast-x
-    cast-y
+    slot-index-requires
+    slot-index-requires-2
     element-copy-out-a
     element-copy-out-b
     poc-diff-requires

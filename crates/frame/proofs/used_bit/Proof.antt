@@ -5,7 +5,7 @@ use mathlib.Core.Bool.{false, _||_}
 use Prim.Native.Nat.{_+_, _*_}
 use native.Mathlib.Omega.{arith}
 use lib.ListN.{getD}
-use Rattle.frame.proofs.Laws.{byte-two}
+use Rattle.loops.proofs.Counting.{byte-one}
 use Rattle.frame.proofs.used_bit.Statement.{statement}
 use Rattle.frame.proofs.used_bit.Tie as tie
 
@@ -28,7 +28,7 @@ cast-result : tie.Need-cast-result
 cast-result c = search needs
 
 returns : tie.Need-returns
-returns c = (refl, omega (arith, byte-two (getD (c .args .t1) (2 * c .args .k) false || getD (c .args .t1) (2 * c .args .k + 1) false)))
+returns c = (refl, omega (arith, byte-one (getD (c .args .t1) (2 * c .args .k) false || getD (c .args .t1) (2 * c .args .k + 1) false)))
 
 pub used-bit-spec : {M : Type 1} → statement M
 used-bit-spec =

@@ -1,5 +1,4 @@
 -- `frame::zero_frame` meets its contract. Assumes nothing.
-use Prim.Native.Nat.{_-_}
 use borrow.Author.Needs.{needs}
 use Rattle.frame.proofs.zero_frame.Statement.{statement}
 use Rattle.frame.proofs.zero_frame.Tie as tie

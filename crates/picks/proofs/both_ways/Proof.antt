@@ -9,8 +9,8 @@ use borrow.Author.Needs.{needs}
 use Rattle.picks.proofs.both_ways.Statement.{statement}
 use Rattle.picks.proofs.both_ways.Tie as tie
 
-cast-at : tie.Need-cast-at
-cast-at c = search needs
+slot-index-requires : tie.Need-slot-index-requires
+slot-index-requires c κs = search needs
 
 array-copy-out-d : tie.Need-array-copy-out-d
 array-copy-out-d c = search needs
@@ -29,17 +29,17 @@ offer-requires-4 c κs = search needs
 
 returns : tie.Need-returns
 unfolding bothWays
-returns c = let s = c .before .before .before .before .before in let f : SFits w8 (getD (s .args .t1) (s .args .s .0) (pos 0)) = record { sfits = c .before .before .before .d .given } in rw (simp back at (c .before .before .if1 .taken), ← c .before .offer .ensures, ← c .offer2 .ensures)
+returns c = let s = c .before .before .before .before .before in let f : SFits w8 (getD (s .args .t1) (c .before .before .before .before .slot-index .result) (pos 0)) = record { sfits = c .before .before .before .d .given } in rw (← c .before .offer .ensures, ← c .offer2 .ensures, ← c .before .before .before .before .slot-index .ensures, simp back at (c .before .before .if1 .taken))
 
 returns-2 : tie.Need-returns-2
 unfolding bothWays
-returns-2 c = let s = c .before .before .before .before .before in let f : SFits w8 (getD (s .args .t1) (s .args .s .0) (pos 0)) = record { sfits = c .before .before .before .d .given } in rw (simp back at (c .before .before .if1 .left), ← c .before .offer3 .ensures, ← c .offer4 .ensures)
+returns-2 c = let s = c .before .before .before .before .before in let f : SFits w8 (getD (s .args .t1) (c .before .before .before .before .slot-index .result) (pos 0)) = record { sfits = c .before .before .before .d .given } in rw (← c .before .offer3 .ensures, ← c .offer4 .ensures, ← c .before .before .before .before .slot-index .ensures, simp back at (c .before .before .if1 .left))
 
 pub both-ways-spec : {M : Type 1} → statement M
 both-ways-spec =
     tie.close
     (tie.spec
-    cast-at
+    slot-index-requires
     array-copy-out-d
     offer-requires
     offer-requires-2

@@ -1,5 +1,6 @@
 -- `picks::earlier_first` meets its contract. Assumes nothing.
 use Prim.Native.Nat.{_<_}
+use native.Mathlib.Omega.{arith}
 use Rattle.picks.specs.Hints.{closest}
 use Rattle.picks.specs.Picks.{nearerEarlier}
 use Rattle.picks.proofs.Laws.{none-is, valid-at}
@@ -34,39 +35,39 @@ returns-2 : tie.Need-returns-2
 unfolding nearerEarlier
 returns-2 c = rw (c .before .before .before .a .given .1, none-is (c .before .before .before .before .before .args .b) (c .before .match2 .keys2))
 
-cast-i : tie.Need-cast-i
-cast-i c = search needs
+slot-index-requires : tie.Need-slot-index-requires
+slot-index-requires c κs = search needs
 
 mul-si : tie.Need-mul-si
 mul-si c = search needs
 
 element-copy-out-si : tie.Need-element-copy-out-si
-element-copy-out-si c = small-a (c .before .before .before .before .before)
+element-copy-out-si c = omega (arith, c .slot-index .ensures, small-a (c .before .before .before .before .before))
 
 element-copy-out-ai : tie.Need-element-copy-out-ai
-element-copy-out-ai c = small-a (c .before .before .before .before .before .before)
+element-copy-out-ai c = omega (arith, c .before .slot-index .ensures, small-a (c .before .before .before .before .before .before))
 
 abs-closest-ref-requires : tie.Need-abs-closest-ref-requires
 abs-closest-ref-requires c κs = search needs
 
-cast-j : tie.Need-cast-j
-cast-j c = search needs
+slot-index-requires-2 : tie.Need-slot-index-requires-2
+slot-index-requires-2 c κs = search needs
 
 mul-sj : tie.Need-mul-sj
 mul-sj c = search needs
 
 element-copy-out-sj : tie.Need-element-copy-out-sj
-element-copy-out-sj c = small-b (c .before .before .before .before .before .before .before)
+element-copy-out-sj c = omega (arith, c .slot-index2 .ensures, small-b (c .before .before .before .before .before .before .before))
 
 element-copy-out-aj : tie.Need-element-copy-out-aj
-element-copy-out-aj c = small-b (c .before .before .before .before .before .before .before .before)
+element-copy-out-aj c = omega (arith, c .before .slot-index2 .ensures, small-b (c .before .before .before .before .before .before .before .before))
 
 abs-closest-ref-requires-2 : tie.Need-abs-closest-ref-requires-2
 abs-closest-ref-requires-2 c κs = search needs
 
 returns-3 : tie.Need-returns-3
 unfolding nearerEarlier closest
-returns-3 c = let b = c .before .before .before .before .before .before .before .before .before .before .before in rw (b .before .before .before .a .given .1, b .b .given .1, ← c .before .before .before .before .before .abs-closest-ref .ensures, ← c .abs-closest-ref2 .ensures)
+returns-3 c = let b = c .before .before .before .before .before .before .before .before .before .before .before in rw (b .before .before .before .a .given .1, b .b .given .1, ← c .before .before .before .before .before .before .before .before .before .slot-index .ensures, ← c .before .before .before .before .slot-index2 .ensures, ← c .before .before .before .before .before .abs-closest-ref .ensures, ← c .abs-closest-ref2 .ensures)
 
 pub earlier-first-spec : {M : Type 1} → statement M
 earlier-first-spec =
@@ -78,12 +79,12 @@ earlier-first-spec =
     enum-known-b
     enum-told-2
     returns-2
-    cast-i
+    slot-index-requires
     mul-si
     element-copy-out-si
     element-copy-out-ai
     abs-closest-ref-requires
-    cast-j
+    slot-index-requires-2
     mul-sj
     element-copy-out-sj
     element-copy-out-aj

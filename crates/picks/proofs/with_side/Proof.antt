@@ -4,8 +4,8 @@ use borrow.Author.Needs.{needs}
 use Rattle.picks.proofs.with_side.Statement.{statement}
 use Rattle.picks.proofs.with_side.Tie as tie
 
-cast-at : tie.Need-cast-at
-cast-at c = search needs
+slot-index-requires : tie.Need-slot-index-requires
+slot-index-requires c κs = search needs
 
 mul-sv : tie.Need-mul-sv
 mul-sv c = search needs
@@ -21,17 +21,17 @@ some-on-side-requires c κs = search needs
 
 returns : tie.Need-returns
 unfolding someOnSide
-returns c = rw (← c .before .some-on-side .ensures, c .if1 .taken)
+returns c = rw (← c .before .before .before .before .slot-index .ensures, ← c .before .some-on-side .ensures, c .if1 .taken)
 
 returns-2 : tie.Need-returns-2
 unfolding someOnSide
-returns-2 c = rw (← c .before .some-on-side .ensures, c .if1 .left)
+returns-2 c = rw (← c .before .before .before .before .slot-index .ensures, ← c .before .some-on-side .ensures, c .if1 .left)
 
 pub with-side-spec : {M : Type 1} → statement M
 with-side-spec =
     tie.close
     (tie.spec
-    cast-at
+    slot-index-requires
     mul-sv
     element-copy-out-sv
     element-copy-out-a

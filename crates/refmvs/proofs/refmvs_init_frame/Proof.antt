@@ -2,7 +2,6 @@
 use borrow.Author.Needs.{needs}
 use mathlib.Core.Path.{_≡_, ap, _∙_}
 use Prim.Native.Nat.{ℕ}
-use Rattle.frame.specs.declared.Header.{Header}
 use Rattle.frame.specs.Frame.{SaidSetup, setupOf}
 use Rattle.refmvs.proofs.refmvs_init_frame.Statement.{statement}
 use Rattle.refmvs.proofs.refmvs_init_frame.Tie as tie

@@ -1,6 +1,6 @@
 -- `refs::clipped_diff` meets its contract. Assumes nothing.
 use mathlib.Core.Path.{_≡_, ap, _∙_}
-use Prim.Native.Nat.{_-_, _≤_}
+use Prim.Native.Nat.{_≤_}
 use lib.IntN.{pos, natAbs}
 use mir.Syntax.{w32}
 use mir.Val.{SFits}

@@ -1,6 +1,5 @@
 -- `refs::is_earlier` meets its contract. Assumes nothing.
 use mathlib.Core.Path.{ap}
-use Prim.Native.Nat.{_-_}
 use lib.IntN.{ℤ, pos}
 use mir.Syntax.{w32}
 use mir.Val.{SFits}

@@ -15,8 +15,8 @@ element-copy-out-x c = search needs
 find-hint-requires : tie.Need-find-hint-requires
 find-hint-requires c κs = search needs
 
-cast-result : tie.Need-cast-result
-cast-result c = search needs
+cast-t14 : tie.Need-cast-t14
+cast-t14 c = search needs
 
 returns-2 : tie.Need-returns-2
 unfolding linkIn
@@ -29,4 +29,4 @@ returns-3 c = rw (ne-eqb _ _ (c .before .before .before .if1 .left), ← c .befo
 pub link-of-spec : {M : Type 1} → statement M
 link-of-spec =
     tie.close
-    (tie.spec returns element-copy-out-x find-hint-requires cast-result returns-2 returns-3)
+    (tie.spec returns element-copy-out-x find-hint-requires cast-t14 returns-2 returns-3)

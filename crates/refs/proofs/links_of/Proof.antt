@@ -1,10 +1,11 @@
 -- `refs::links_of` meets its contract. Assumes nothing.
 use mathlib.Core.Path.{_≡_, refl, ap}
-use Prim.Native.Nat.{ℕ, _*_, _-_, _≤_}
+use Prim.Native.Nat.{_*_, _-_, _≤_}
 use native.Mathlib.Omega.{arith}
 use lib.ListN.{set}
 use Rattle.loops.specs.Over.{span}
 use Rattle.loops.proofs.Turns.{turned, ended}
+use Rattle.levels.specs.declared.Slot.{Slot}
 use Rattle.refs.specs.Refs.{putLink, linksOf}
 use Rattle.refs.proofs.links_of.Statement.{statement}
 use Rattle.refs.proofs.links_of.Tie as tie
@@ -30,8 +31,8 @@ element-copy-out-s c = omega arith
 link-of-requires : tie.Need-link-of-requires Inv-loop μ-loop
 link-of-requires c κs = omega arith
 
-array-write-out : tie.Need-array-write-out Inv-loop μ-loop
-array-write-out c = omega arith
+array-set-from-out : tie.Need-array-set-from-out Inv-loop μ-loop
+array-set-from-out c = omega arith
 
 add-k : tie.Need-add-k Inv-loop μ-loop
 add-k c = omega arith
@@ -42,7 +43,7 @@ loop-less c = omega arith
 loop-again : tie.Need-loop-again Inv-loop μ-loop
 loop-again c =
     let o = c .before .before .before in let l = o .loop in let a = o .before .before .args in
-    let e : set (l .out) (l .k) (c .link-of .result) ≡ putLink (a .t1) (l .k) (l .out) = ap (λ (v : ℕ). set (l .out) (l .k) v) (c .link-of .ensures) in
+    let e : set (l .out) (l .k) (c .link-of .result) ≡ putLink (a .t1) (l .k) (l .out) = ap (λ (v : Slot). set (l .out) (l .k) v) (c .link-of .ensures) in
     (omega arith, refl, turned (putLink (a .t1)) (7 * a .t1 .«n_refs») (l .k) (l .out) _ _ (omega arith) e (l .inv .2))
 
 returns : tie.Need-returns Inv-loop μ-loop
@@ -60,7 +61,7 @@ links-of-spec =
     mul-s
     element-copy-out-s
     link-of-requires
-    array-write-out
+    array-set-from-out
     add-k
     loop-less
     loop-again

@@ -37,12 +37,12 @@ loop-again c =
     let l = c .before .before .loop in let a = c .before .before .before .args in let k = c .topo-insert in
     let h = c .before .loop-test .taken in (
       omega arith,
-      rw (k .ensures) (grown-room (grown 7 (a .links .now) (l .i) (l .o) (omega arith) (l .inv .1)) (l .inv .1)),
-      turned (enter 7 (a .links .now)) (a .n) (l .i) (l .o) _ _ h (k .ensures) (l .inv .2),
+      rw (k .ensures) (grown-room (grown 7 (a .links) (l .i) (l .o) (omega arith) (l .inv .1)) (l .inv .1)),
+      turned (enter 7 (a .links)) (a .n) (l .i) (l .o) _ _ h (k .ensures) (l .inv .2),
     )
 
 returns : tie.Need-returns Inv-loop μ-loop
-returns c = ended (enter 7 (c .before .before .args .links .now)) _ _ _ _ (c .loop-test .left) (c .before .loop .inv .2)
+returns c = ended (enter 7 (c .before .before .args .links)) _ _ _ _ (c .loop-test .left) (c .before .loop .inv .2)
 
 pub topo-order-spec : {M : Type 1} → statement M
 topo-order-spec =

@@ -1,23 +1,23 @@
 -- `replay::setup::all_saved` meets its contract. Assumes nothing.
-use mathlib.Core.Path.{_≡_, ap}
+use mathlib.Core.Path.{_≡_, refl}
 use Prim.Native.Nat.{_+_, _*_, _-_, _≤_}
 use native.Mathlib.Omega.{arith}
-use lib.ListN.{set}
 use borrow.Author.Needs.{needs}
-use Rattle.picks.specs.declared.Saved.{Saved}
-use Rattle.replay.specs.FrameCase.{turns, seven, savedAt, allSaved}
-use Rattle.replay.proofs.FrameCase.{turned, ended, storing, filled}
+use Rattle.loops.specs.Over.{span}
+use Rattle.loops.specs.Seven.{storing}
+use Rattle.loops.proofs.Seven.{stored, all-stored}
+use Rattle.replay.specs.FrameCase.{savedAt, allSaved}
 use Rattle.replay.proofs.setup.all_saved.Statement.{statement}
 use Rattle.replay.proofs.setup.all_saved.Tie as tie
 
 abbrev Inv-loop : tie.InvT-loop
-Inv-loop n out₀ i₀ out i = (i ≤ 7) × (turns (storing (λ j. savedAt n (20 + 8 * j))) (7 - i) i out ≡ seven (λ j. savedAt n (20 + 8 * j)))
+Inv-loop n out₀ i₀ out i = (i ≤ 7) × (span (storing (λ j. savedAt n (20 + 8 * j))) i 7 out ≡ span (storing (λ j. savedAt n (20 + 8 * j))) 0 7 out₀)
 
 abbrev μ-loop : tie.MeasureT-loop
 μ-loop n out₀ i₀ out i = 7 - i
 
 loop-holds : tie.Need-loop-holds Inv-loop μ-loop
-loop-holds c = (omega arith, filled _ _)
+loop-holds c = (omega arith, refl)
 
 mul-saved-at : tie.Need-mul-saved-at Inv-loop μ-loop
 mul-saved-at c = search needs
@@ -45,11 +45,11 @@ loop-again c =
     let s = c .before .before .before in
     let l = c .before .before .loop in
     let n = s .args .n .now in
-    (omega arith, turned (storing (λ i. savedAt n (20 + 8 * i))) 7 (l .i) (l .out) _ _ (c .before .loop-test .taken) (ap (λ (v : Saved). set (l .out) (l .i) v) (c .saved-at .ensures)) (l .inv .1))
+    (omega arith, stored (λ i. savedAt n (20 + 8 * i)) (l .i) (l .out) _ _ (c .before .loop-test .taken) (c .saved-at .ensures) (l .inv .1))
 
 returns : tie.Need-returns Inv-loop μ-loop
 unfolding allSaved
-returns c = ended _ _ _ _ _ (c .loop-test .left) (c .before .loop .inv .1)
+returns c = all-stored _ _ _ _ (c .loop-test .left) (c .before .loop .inv .1)
 
 pub all-saved-spec : {M : Type 1} → statement M
 all-saved-spec =

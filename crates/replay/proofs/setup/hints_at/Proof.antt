@@ -1,26 +1,27 @@
 -- `replay::setup::hints_at` meets its contract. Assumes nothing.
-use mathlib.Core.Path.{_≡_, ap}
-use Prim.Native.Nat.{ℕ, _+_, _-_, _≤_}
+use mathlib.Core.Path.{_≡_, refl, ap}
+use Prim.Native.Nat.{_+_, _-_, _≤_}
 use native.Mathlib.Omega.{arith}
-use lib.ListN.{set}
 use mir.Syntax.{w64}
 use mir.Val.{SFits}
 use borrow.Author.Needs.{needs}
+use Rattle.loops.specs.Over.{span}
+use Rattle.loops.specs.Seven.{storing}
+use Rattle.loops.proofs.Seven.{stored, all-stored}
 use Rattle.intops.proofs.Signed.{back}
-use Rattle.replay.specs.FrameCase.{turns, seven, hintsAt}
+use Rattle.replay.specs.FrameCase.{hintsAt}
 use Rattle.replay.specs.Judged.{at, hintAt, hint}
-use Rattle.replay.proofs.FrameCase.{turned, ended, storing, filled}
 use Rattle.replay.proofs.setup.hints_at.Statement.{statement}
 use Rattle.replay.proofs.setup.hints_at.Tie as tie
 
 abbrev Inv-loop : tie.InvT-loop
-Inv-loop n k out₀ i₀ out i = (i ≤ 7) × (turns (storing (λ j. hintAt n (k + j))) (7 - i) i out ≡ seven (λ j. hintAt n (k + j)))
+Inv-loop n k out₀ i₀ out i = (i ≤ 7) × (span (storing (λ j. hintAt n (k + j))) i 7 out ≡ span (storing (λ j. hintAt n (k + j))) 0 7 out₀)
 
 abbrev μ-loop : tie.MeasureT-loop
 μ-loop n k out₀ i₀ out i = 7 - i
 
 loop-holds : tie.Need-loop-holds Inv-loop μ-loop
-loop-holds c = (omega arith, filled _ _)
+loop-holds c = (omega arith, refl)
 
 add-to-u8 : tie.Need-add-to-u8 Inv-loop μ-loop
 add-to-u8 c = search needs
@@ -51,11 +52,11 @@ loop-again c =
     let j = s .args .k + l .i in
     let f : SFits w64 (at n j) = search needs in
     let e = (simp back at (c .to-u8 .ensures)) (s .pre .1 j (omega arith) (omega arith)) in
-    (omega arith, turned (storing (λ i. hintAt n (s .args .k + i))) 7 (l .i) (l .out) _ _ (c .before .before .loop-test .taken) (ap (λ (v : ℕ). set (l .out) (l .i) (hint v)) e) (l .inv .1))
+    (omega arith, stored (λ i. hintAt n (s .args .k + i)) (l .i) (l .out) _ _ (c .before .before .loop-test .taken) (ap hint e) (l .inv .1))
 
 returns : tie.Need-returns Inv-loop μ-loop
 unfolding hintsAt
-returns c = ended _ _ _ _ _ (c .loop-test .left) (c .before .loop .inv .1)
+returns c = all-stored _ _ _ _ (c .loop-test .left) (c .before .loop .inv .1)
 
 pub hints-at-spec : {M : Type 1} → statement M
 hints-at-spec =

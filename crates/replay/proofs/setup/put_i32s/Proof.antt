@@ -7,15 +7,16 @@ use lib.ListN.{set, getD}
 use mir.Syntax.{w32, w64}
 use mir.Val.{SFits}
 use borrow.Author.Needs.{needs}
+use Rattle.loops.specs.Over.{span}
+use Rattle.loops.proofs.Turns.{turned, ended}
 use Rattle.intops.proofs.Signed.{back}
-use Rattle.replay.specs.FrameCase.{turns, putting, putSeven}
+use Rattle.replay.specs.FrameCase.{putting, putSeven}
 use Rattle.replay.specs.Judged.{at}
-use Rattle.replay.proofs.FrameCase.{turned, ended}
 use Rattle.replay.proofs.setup.put_i32s.Statement.{statement}
 use Rattle.replay.proofs.setup.put_i32s.Tie as tie
 
 abbrev Inv-loop : tie.InvT-loop
-Inv-loop out₀ k a i₀ out i = (i ≤ 7) × (turns (putting (at a) k) (7 - i) i out ≡ putSeven (at a) k out₀)
+Inv-loop out₀ k a i₀ out i = (i ≤ 7) × (span (putting (at a) k) i 7 out ≡ putSeven (at a) k out₀)
 
 abbrev μ-loop : tie.MeasureT-loop
 μ-loop out₀ k a i₀ out i = 7 - i

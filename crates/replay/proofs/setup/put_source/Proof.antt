@@ -4,7 +4,7 @@ use native.Mathlib.Omega.{arith}
 use mir.Syntax.{w8, w64}
 use mir.Val.{SFits}
 use borrow.Author.Needs.{needs, sfits-of}
-use Rattle.intops.proofs.Signed.{back, signed}
+use Rattle.intops.proofs.Signed.{back}
 use Rattle.replay.proofs.FrameCase.{source-is}
 use Rattle.replay.proofs.setup.put_source.Statement.{statement}
 use Rattle.replay.proofs.setup.put_source.Tie as tie

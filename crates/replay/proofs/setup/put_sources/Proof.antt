@@ -3,13 +3,14 @@ use mathlib.Core.Path.{_≡_, refl}
 use Prim.Native.Nat.{_+_, _*_, _-_, _≤_}
 use native.Mathlib.Omega.{arith}
 use lib.ListN.{getD}
-use Rattle.replay.specs.FrameCase.{turns, putSource, putSources, blank}
-use Rattle.replay.proofs.FrameCase.{turned, ended}
+use Rattle.loops.specs.Over.{span}
+use Rattle.loops.proofs.Turns.{turned, ended}
+use Rattle.replay.specs.FrameCase.{putSource, putSources, blank}
 use Rattle.replay.proofs.setup.put_sources.Statement.{statement}
 use Rattle.replay.proofs.setup.put_sources.Tie as tie
 
 abbrev Inv-loop : tie.InvT-loop
-Inv-loop out₀ sources i₀ out i = (i ≤ 4) × (turns (λ i. putSource (getD (sources .mfmv) i blank) (43 + 32 * i)) (4 - i) i out ≡ turns (λ i. putSource (getD (sources .mfmv) i blank) (43 + 32 * i)) 4 0 out₀)
+Inv-loop out₀ sources i₀ out i = (i ≤ 4) × (span (λ i. putSource (getD (sources .mfmv) i blank) (43 + 32 * i)) i 4 out ≡ span (λ i. putSource (getD (sources .mfmv) i blank) (43 + 32 * i)) 0 4 out₀)
 
 abbrev μ-loop : tie.MeasureT-loop
 μ-loop out₀ sources i₀ out i = 4 - i

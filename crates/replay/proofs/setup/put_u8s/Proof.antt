@@ -7,14 +7,15 @@ use lib.ListN.{set}
 use mir.Syntax.{w64}
 use mir.Val.{SFits}
 use borrow.Author.Needs.{needs}
+use Rattle.loops.specs.Over.{span}
+use Rattle.loops.proofs.Turns.{turned, ended}
 use Rattle.intops.proofs.Signed.{back}
-use Rattle.replay.specs.FrameCase.{turns, bytes, putting, putSeven}
-use Rattle.replay.proofs.FrameCase.{turned, ended}
+use Rattle.replay.specs.FrameCase.{bytes, putting, putSeven}
 use Rattle.replay.proofs.setup.put_u8s.Statement.{statement}
 use Rattle.replay.proofs.setup.put_u8s.Tie as tie
 
 abbrev Inv-loop : tie.InvT-loop
-Inv-loop out₀ k a i₀ out i = (i ≤ 7) × (turns (putting (bytes a) k) (7 - i) i out ≡ putSeven (bytes a) k out₀)
+Inv-loop out₀ k a i₀ out i = (i ≤ 7) × (span (putting (bytes a) k) i 7 out ≡ putSeven (bytes a) k out₀)
 
 abbrev μ-loop : tie.MeasureT-loop
 μ-loop out₀ k a i₀ out i = 7 - i

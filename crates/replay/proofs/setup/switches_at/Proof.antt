@@ -1,27 +1,27 @@
 -- `replay::setup::switches_at` meets its contract. Assumes nothing.
-use mathlib.Core.Bool.{Bool}
-use mathlib.Core.Path.{_≡_, ap}
+use mathlib.Core.Path.{_≡_, refl}
 use Prim.Native.Nat.{_+_, _-_, _≤_}
 use native.Mathlib.Omega.{arith}
-use lib.ListN.{set}
 use mir.Syntax.{w64}
 use mir.Val.{SFits}
 use borrow.Author.Needs.{needs}
+use Rattle.loops.specs.Over.{span}
+use Rattle.loops.specs.Seven.{storing}
+use Rattle.loops.proofs.Seven.{stored, all-stored}
 use Rattle.intops.proofs.Signed.{back}
-use Rattle.replay.specs.FrameCase.{turns, seven, isOn, switchesAt}
+use Rattle.replay.specs.FrameCase.{isOn, switchesAt}
 use Rattle.replay.specs.Judged.{at}
-use Rattle.replay.proofs.FrameCase.{turned, ended, storing, filled}
 use Rattle.replay.proofs.setup.switches_at.Statement.{statement}
 use Rattle.replay.proofs.setup.switches_at.Tie as tie
 
 abbrev Inv-loop : tie.InvT-loop
-Inv-loop n k out₀ i₀ out i = (i ≤ 7) × (turns (storing (λ j. isOn (at n (k + j)))) (7 - i) i out ≡ seven (λ j. isOn (at n (k + j))))
+Inv-loop n k out₀ i₀ out i = (i ≤ 7) × (span (storing (λ j. isOn (at n (k + j)))) i 7 out ≡ span (storing (λ j. isOn (at n (k + j)))) 0 7 out₀)
 
 abbrev μ-loop : tie.MeasureT-loop
 μ-loop n k out₀ i₀ out i = 7 - i
 
 loop-holds : tie.Need-loop-holds Inv-loop μ-loop
-loop-holds c = (omega arith, filled _ _)
+loop-holds c = (omega arith, refl)
 
 add-is-on : tie.Need-add-is-on Inv-loop μ-loop
 add-is-on c = search needs
@@ -52,11 +52,11 @@ loop-again c =
     let j = s .args .k + l .i in
     let f : SFits w64 (at n j) = search needs in
     let e : c .is-on .result ≡ isOn (at n j) = simp back at (c .is-on .ensures) in
-    (omega arith, turned (storing (λ i. isOn (at n (s .args .k + i)))) 7 (l .i) (l .out) _ _ (c .before .before .loop-test .taken) (ap (λ (v : Bool). set (l .out) (l .i) v) e) (l .inv .1))
+    (omega arith, stored (λ i. isOn (at n (s .args .k + i))) (l .i) (l .out) _ _ (c .before .before .loop-test .taken) e (l .inv .1))
 
 returns : tie.Need-returns Inv-loop μ-loop
 unfolding switchesAt
-returns c = ended _ _ _ _ _ (c .loop-test .left) (c .before .loop .inv .1)
+returns c = all-stored _ _ _ _ (c .loop-test .left) (c .before .loop .inv .1)
 
 pub switches-at-spec : {M : Type 1} → statement M
 switches-at-spec =
