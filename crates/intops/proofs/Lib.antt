@@ -2,3 +2,4 @@ pub mod Bits
 pub mod Rounding
 pub mod Signed
 pub mod Table
+pub mod Tests

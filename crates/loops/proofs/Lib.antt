@@ -1,5 +1,6 @@
 pub mod Counting
 pub mod Keeps
+pub mod Same
 pub mod Seven
 pub mod Slots
 pub mod Turns

@@ -1,0 +1,4 @@
+pub mod Local
+pub mod Keeps
+pub mod Owned
+pub mod Order

@@ -1,0 +1,3 @@
+pub mod Store
+pub mod Program
+pub mod Calls
