@@ -196,6 +196,13 @@ pub fn dequantize_mv(mv: QMv) -> MvAnswer
     MvAnswer::Vector(Mv { y, x })
 }
 
+// A sum of cells that are not empty, and how many there are.
+pub struct Sum {
+    pub y: i64,
+    pub x: i64,
+    pub n: usize,
+}
+
 // sum times idiv / 2^bits, rounded to nearest, halves away from zero: the average of n cells, where
 // idiv is the whole part of 2^bits / n. The n cells bound the sum, so that the average has 32 bits.
 pub fn average_of(sum: i64, n: usize, idiv: u32, bits: u32) -> i32

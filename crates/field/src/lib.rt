@@ -1,0 +1,1 @@
+// The field's part of a load: definitions in specs/. There is no code here yet.

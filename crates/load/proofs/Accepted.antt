@@ -1,0 +1,172 @@
+-- What tests 9 to 12 say of an accepted call. Assumes nothing.
+use mathlib.Core.Path.{_≡_, refl, sym, subst}
+use mathlib.Core.Bool.{Bool, true, false, not, cond, _&&_, _||_}
+use mathlib.Core.Logic.{_⊎_, inl, inr}
+use Prim.Native.Nat.{ℕ, zero, suc, _+_, _-_, _/_, _%_, _≤_, _<_}
+use native.Mathlib.Nat.{mul-mod-left}
+use native.Mathlib.Omega.{arith}
+use borrow.Author.Tests.{leb-true, ltb-true, eqb-true, eqb-false}
+use lib.Dec.{eqb, leb, ltb}
+use lib.IntN.{ℤ}
+use lib.ListN.{getD}
+use lib.Signed.{ltZ}
+use Rattle.intops.proofs.Tests.{and-both, not-false}
+use Rattle.frame.specs.declared.Frame.{Frame}
+use Rattle.frame.specs.Frame.{noSource, badSize}
+use Rattle.store.specs.Store.{Store}
+use Rattle.tile.specs.Sound.{Sound}
+use Rattle.load.specs.Load.{Call, sideOf, blockOf, edgeOf, wideOf, highOf, strideOf, tileOf}
+use Rattle.load.specs.Calls.{allBelow, within, sourceInRange, setupInRange, tileFits, longEnough, contentsFine, answer}
+
+-- what holds of each number below n
+pub all-below : (n : ℕ) (p : ℕ → Bool) → allBelow n p ≡ true → (i : ℕ) → i < n → p i ≡ true
+unfolding allBelow
+all-below zero p h i l = absurd (omega arith)
+all-below (suc n) p h i l = go (eqb i n) refl (all-below n p (b .0) i)
+  where
+    b : (allBelow n p ≡ true) × (p n ≡ true)
+    b = and-both (allBelow n p) (p n) h
+
+    go : (e : Bool) → eqb i n ≡ e → (i < n → p i ≡ true) → p i ≡ true
+    go true e below = rw (eqb-true i n e) (b .1)
+    go false e below = let d : i ≡ n → ⊥ = eqb-false i n e in below (omega arith)
+
+pub within-bounds : (a b z : ℤ) → within a b z ≡ true → (ltZ z a ≡ false) × (ltZ b z ≡ false)
+within-bounds a b z h =
+    let w = and-both (not (ltZ z a)) (not (ltZ b z)) h in
+    (not-false (ltZ z a) (w .0), not-false (ltZ b z) (w .1))
+
+-- the four tests of a call that is accepted on s
+pub record Passed (c : Call) (s : Store) : Type 0 where
+  pub setup : setupInRange (c .setup) ≡ true
+  pub tile : tileFits c ≡ true
+  pub long : longEnough c s ≡ true
+  pub contents : contentsFine c s ≡ true
+
+pub passed : (c : Call) (s : Store) → answer c s ≡ 0 → Passed c s
+unfolding answer
+passed c s h = go (setupInRange (c .setup)) (tileFits c) (longEnough c s) (contentsFine c s) refl refl refl refl h
+  where
+    go : (p q r u : Bool) → setupInRange (c .setup) ≡ p → tileFits c ≡ q → longEnough c s ≡ r → contentsFine c s ≡ u
+        → _≡_ {A = ℕ} (cond p (cond q (cond r (cond u 0 12) 11) 10) 9) 0 → Passed c s
+    go true true true true a b d e h = record { setup = a; tile = b; long = d; contents = e }
+    go true true true false a b d e h = absurd (omega arith)
+    go true true false u a b d e h = absurd (omega arith)
+    go true false r u a b d e h = absurd (omega arith)
+    go false q r u a b d e h = absurd (omega arith)
+
+-- test 9, taken apart
+pub record InRange (f : Frame) : Type 0 where
+  pub slots : f .«n_refs» ≤ 7
+  pub code : f .sb128 ≤ 2
+  pub stepLow : 1 ≤ f .«tmvp_sample_step»
+  pub stepHigh : f .«tmvp_sample_step» ≤ 2
+  pub sources : (n : ℕ) → n < f .sources .«n_mfmvs» → sourceInRange (getD (f .sources .mfmv) n noSource) ≡ true
+
+pub in-range : (f : Frame) → setupInRange f ≡ true → InRange f
+unfolding setupInRange
+in-range f h =
+    let t1 : Bool = leb (f .«n_refs») 7 in
+    let t2 : Bool = leb (f .sb128) 2 in
+    let t3 : Bool = not (eqb (f .«tmvp_sample_step») 0) in
+    let t4 : Bool = leb (f .«tmvp_sample_step») 2 in
+    let t5 : Bool = not (badSize (f .width)) in
+    let t6 : Bool = not (badSize (f .height)) in
+    let t7 : Bool = leb (f .sources .«n_mfmvs») 4 in
+    let e8 = and-both (t1 && t2 && t3 && t4 && t5 && t6 && t7) (allBelow (f .sources .«n_mfmvs») (λ n. sourceInRange (getD (f .sources .mfmv) n noSource))) h in
+    let e7 = and-both (t1 && t2 && t3 && t4 && t5 && t6) t7 (e8 .0) in
+    let e6 = and-both (t1 && t2 && t3 && t4 && t5) t6 (e7 .0) in
+    let e5 = and-both (t1 && t2 && t3 && t4) t5 (e6 .0) in
+    let e4 = and-both (t1 && t2 && t3) t4 (e5 .0) in
+    let e3 = and-both (t1 && t2) t3 (e4 .0) in
+    let e2 = and-both t1 t2 (e3 .0) in
+    let z : f .«tmvp_sample_step» ≡ 0 → ⊥ = eqb-false (f .«tmvp_sample_step») 0 (not-false (eqb (f .«tmvp_sample_step») 0) (e3 .1)) in
+    record {
+      slots = leb-true (f .«n_refs») 7 (e2 .0);
+      code = leb-true (f .sb128) 2 (e2 .1);
+      stepLow = omega arith;
+      stepHigh = leb-true (f .«tmvp_sample_step») 2 (e4 .1);
+      sources = all-below (f .sources .«n_mfmvs») (λ n. sourceInRange (getD (f .sources .mfmv) n noSource)) (e8 .1);
+    }
+
+-- test 10, taken apart as far as columns go
+pub record Columns (c : Call) : Type 0 where
+  pub some : c .colStart < c .colEnd
+  pub wide : c .colEnd ≤ wideOf (c .setup)
+  pub start : c .colStart % sideOf (c .setup) ≡ 0
+
+pub columns : (c : Call) → tileFits c ≡ true → Columns c
+unfolding tileFits
+columns c h =
+    let S : ℕ = sideOf (c .setup) in
+    let W : ℕ = wideOf (c .setup) in
+    let H : ℕ = highOf (c .setup) in
+    let t1 : Bool = ltb (c .colStart) (c .colEnd) in
+    let t2 : Bool = leb (c .colEnd) W in
+    let t3 : Bool = eqb (c .colStart % S) 0 in
+    let t4 : Bool = eqb (c .colEnd % S) 0 || eqb (c .colEnd) W in
+    let t5 : Bool = eqb (c .rowStart % S) 0 in
+    let t6 : Bool = ltb (c .rowStart) H in
+    let e7 = and-both (t1 && t2 && t3 && t4 && t5 && t6) (eqb (c .rowEnd) (c .rowStart + S) || (leb H (c .rowEnd) && leb (c .rowEnd) (c .rowStart + S))) h in
+    let e6 = and-both (t1 && t2 && t3 && t4 && t5) t6 (e7 .0) in
+    let e5 = and-both (t1 && t2 && t3 && t4) t5 (e6 .0) in
+    let e4 = and-both (t1 && t2 && t3) t4 (e5 .0) in
+    let e3 = and-both (t1 && t2) t3 (e4 .0) in
+    let e2 = and-both t1 t2 (e3 .0) in
+    record {
+      some = ltb-true (c .colStart) (c .colEnd) (e2 .0);
+      wide = leb-true (c .colEnd) W (e2 .1);
+      start = eqb-true (c .colStart % S) 0 (e3 .1);
+    }
+
+-- S and B by the code and the step
+sizes : (P : ℕ → ℕ → ℕ → Type 0) (f : Frame) → InRange f → P 8 8 1 → P 8 8 2 → P 16 8 1 → P 16 16 2 → P 32 8 1 → P 32 16 2
+    → P (sideOf f) (blockOf f) (f .«tmvp_sample_step»)
+sizes P f r a b c d e g = go (eqb (f .sb128) 0) (eqb (f .sb128) 1) (eqb (f .«tmvp_sample_step») 2) refl
+  where
+    go : (p q s : Bool) → eqb (f .«tmvp_sample_step») 2 ≡ s → P (cond p 8 (cond q 16 32)) (cond (not p && s) 16 8) (f .«tmvp_sample_step»)
+    go true q true h = let k : f .«tmvp_sample_step» ≡ 2 = eqb-true (f .«tmvp_sample_step») 2 h in rw k b
+    go false true true h = let k : f .«tmvp_sample_step» ≡ 2 = eqb-true (f .«tmvp_sample_step») 2 h in rw k d
+    go false false true h = let k : f .«tmvp_sample_step» ≡ 2 = eqb-true (f .«tmvp_sample_step») 2 h in rw k g
+    go true q false h = let n : f .«tmvp_sample_step» ≡ 2 → ⊥ = eqb-false (f .«tmvp_sample_step») 2 h in let k : f .«tmvp_sample_step» ≡ 1 = omega (arith, r .stepLow, r .stepHigh) in rw k a
+    go false true false h = let n : f .«tmvp_sample_step» ≡ 2 → ⊥ = eqb-false (f .«tmvp_sample_step») 2 h in let k : f .«tmvp_sample_step» ≡ 1 = omega (arith, r .stepLow, r .stepHigh) in rw k c
+    go false false false h = let n : f .«tmvp_sample_step» ≡ 2 → ⊥ = eqb-false (f .«tmvp_sample_step») 2 h in let k : f .«tmvp_sample_step» ≡ 1 = omega (arith, r .stepLow, r .stepHigh) in rw k e
+
+edge-low : (f : Frame) → edgeOf f ≤ blockOf f
+edge-low f = go (eqb (f .«tmvp_sample_step») 2) (blockOf f)
+  where
+    go : (b : Bool) (B : ℕ) → cond b B (B / 2) ≤ B
+    go true B = omega arith
+    go false B = omega arith
+
+-- with step 2 the edge is the block's side, with step 1 every number will do
+edge-even : (f : Frame) → InRange f → edgeOf f % f .«tmvp_sample_step» ≡ 0
+edge-even f r = go (eqb (f .«tmvp_sample_step») 2) refl
+  where
+    even : blockOf f % 2 ≡ 0
+    even = sizes (λ S B s. B % 2 ≡ 0) f r refl refl refl refl refl refl
+
+    go : (b : Bool) → eqb (f .«tmvp_sample_step») 2 ≡ b → cond b (blockOf f) (blockOf f / 2) % f .«tmvp_sample_step» ≡ 0
+    go true h = let k : f .«tmvp_sample_step» ≡ 2 = eqb-true (f .«tmvp_sample_step») 2 h in subst (λ (n : ℕ). blockOf f % n ≡ 0) (sym k) even
+    go false h =
+        let n : f .«tmvp_sample_step» ≡ 2 → ⊥ = eqb-false (f .«tmvp_sample_step») 2 h in
+        let k : f .«tmvp_sample_step» ≡ 1 = omega (arith, r .stepLow, r .stepHigh) in
+        subst (λ (n : ℕ). blockOf f / 2 % n ≡ 0) (sym k) (omega arith)
+
+pub sound : (c : Call) → InRange (c .setup) → Columns c → Sound (tileOf c)
+unfolding tileOf
+sound c r k =
+    let f : Frame = c .setup in
+    record {
+      side = sizes (λ S B s. 0 < S) f r (omega arith) (omega arith) (omega arith) (omega arith) (omega arith) (omega arith);
+      block = sizes (λ S B s. (B ≡ 8) ⊎ (B ≡ 16)) f r (inl refl) (inl refl) (inl refl) (inr refl) (inl refl) (inr refl);
+      step = sizes (λ S B s. (s ≡ 1) ⊎ (s ≡ 2)) f r (inl refl) (inr refl) (inl refl) (inr refl) (inl refl) (inr refl);
+      edge = edge-low f;
+      edgeOnStep = edge-even f r;
+      start = sizes (λ S B s. c .colStart % S ≡ 0 → c .colStart % B ≡ 0) f r (λ h. h) (λ h. h) (λ h. omega arith) (λ h. h) (λ h. omega arith) (λ h. omega arith) (k .start);
+      some = k .some;
+      right = k .wide;
+      wide = omega arith;
+      stride = omega arith;
+      offset = mul-mod-left (cond (c .wholeFrame) (c .rowStart) 3) (strideOf f);
+    }

@@ -1,0 +1,4 @@
+pub mod Project
+pub mod Load
+pub mod Calls
+pub mod Theorems

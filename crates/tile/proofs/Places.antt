@@ -1,0 +1,121 @@
+-- Where a cell stands, taken apart again: its column, its plane; blocks and sampled columns. Assumes nothing.
+use mathlib.Core.Path.{_≡_, sym, ap, _∙_}
+use mathlib.Core.Logic.{_⊎_, inl, inr}
+use mathlib.Core.Bool.{true}
+use Prim.Native.Nat.{ℕ, _+_, _-_, _*_, _/_, _%_, _≤_, _<_, min}
+use native.Mathlib.Nat.{add-mul, mul-assoc, mod-lt, div-add-mod'}
+use native.Mathlib.Omega.{arith}
+use borrow.Author.Tests.{leb-true, ltb-true}
+use lib.Dec.{leb, ltb}
+use lib.Arith.{digits-lt, digits-div, digits-mod}
+use Rattle.intops.proofs.Tests.{and-both}
+use Rattle.tile.specs.declared.Tile.{Tile}
+use Rattle.tile.specs.Layout.{rowCells, place, fieldAt, trajAt, mapAt, onStep, blockStart, nearCol}
+use Rattle.tile.specs.Sound.{Sound}
+
+module _ (t : Tile) (k : Sound t) where
+  -- a fact of the block's side and the step is one of four
+  pub sides : (P : ℕ → ℕ → Type 0) → P 8 1 → P 8 2 → P 16 1 → P 16 2 → P (t .block) (t .step)
+  sides P a b c d = go (k .block) (k .step)
+    where
+      go : (t .block ≡ 8) ⊎ (t .block ≡ 16) → (t .step ≡ 1) ⊎ (t .step ≡ 2) → P (t .block) (t .step)
+      go (inl p) (inl q) = rw (p, q) a
+      go (inl p) (inr q) = rw (p, q) b
+      go (inr p) (inl q) = rw (p, q) c
+      go (inr p) (inr q) = rw (p, q) d
+
+  pub block-some : 0 < t .block
+  block-some = sides (λ B s. 0 < B) (omega arith) (omega arith) (omega arith) (omega arith)
+
+  pub step-some : 0 < t .step
+  step-some = sides (λ B s. 0 < s) (omega arith) (omega arith) (omega arith) (omega arith)
+
+  pub row-low : (y : ℕ) → y % t .side < t .side
+  row-low y = mod-lt y (k .side)
+
+  -- the column of a cell: its number in a row of the store
+  pub field-col : (y x : ℕ) → x < t .stride → fieldAt t y x % t .stride ≡ x
+  unfolding fieldAt place
+  field-col y x h =
+      let o : t .offset ≡ t .offset / t .stride * t .stride = sym (div-add-mod' (t .offset) (t .stride)) ∙ omega (arith, k .offset) in
+      let e : t .offset + (y % t .side * t .stride + x) ≡ (t .offset / t .stride + y % t .side) * t .stride + x =
+      omega (arith, o, add-mul (t .offset / t .stride) (y % t .side) (t .stride)) in
+      ap (λ (i : ℕ). i % t .stride) e ∙ digits-mod (t .offset / t .stride + y % t .side) h
+
+  place-low : (y x : ℕ) → x < t .stride → place t y x < rowCells t
+  unfolding place rowCells
+  place-low y x h = digits-lt (row-low y) h
+
+  -- a field cell is of the superblock row, or before it
+  pub field-low : (y x : ℕ) → x < t .stride → fieldAt t y x < t .offset + rowCells t
+  unfolding fieldAt
+  field-low y x h = omega (arith, place-low y x h)
+
+  -- plane j of a list of planes
+  plane-col : (j y x : ℕ) → x < t .stride → (j * rowCells t + place t y x) % t .stride ≡ x
+  unfolding place rowCells
+  plane-col j y x h =
+      let e : j * (t .side * t .stride) + (y % t .side * t .stride + x) ≡ (j * t .side + y % t .side) * t .stride + x =
+      omega (arith, mul-assoc j (t .side) (t .stride), add-mul (j * t .side) (y % t .side) (t .stride)) in
+      ap (λ (i : ℕ). i % t .stride) e ∙ digits-mod (j * t .side + y % t .side) h
+
+  pub traj-col : (n y x : ℕ) → x < t .stride → trajAt t n y x % t .stride ≡ x
+  unfolding trajAt
+  traj-col n y x h = plane-col n y x h
+
+  -- a trajectory is one of the 7 × S × stride
+  pub traj-low : (n y x : ℕ) → n < 7 → x < t .stride → trajAt t n y x < 7 * rowCells t
+  unfolding trajAt
+  traj-low n y x l h = digits-lt l (place-low y x h)
+
+  pub map-col : (j n y x : ℕ) → x < t .stride → mapAt t j n y x % t .stride ≡ x
+  unfolding mapAt
+  map-col j n y x h = plane-col (j * 7 + n) y x h
+
+  -- a map cell is one of the 3 × 7 × S × stride
+  pub map-low : (j n y x : ℕ) → j < 3 → n < 7 → x < t .stride → mapAt t j n y x < 21 * rowCells t
+  unfolding mapAt
+  map-low j n y x p l h = let m : j * 7 + n < 21 = omega arith in digits-lt m (place-low y x h)
+
+  pub map-plane : (j n y x : ℕ) → n < 7 → x < t .stride → mapAt t j n y x / (7 * rowCells t) ≡ j
+  unfolding mapAt
+  map-plane j n y x l h =
+      let e : (j * 7 + n) * rowCells t + place t y x ≡ j * (7 * rowCells t) + (n * rowCells t + place t y x) =
+      omega (arith, add-mul (j * 7) n (rowCells t), mul-assoc j 7 (rowCells t)) in
+      ap (λ (i : ℕ). i / (7 * rowCells t)) e ∙ digits-div j (digits-lt l (place-low y x h))
+
+  -- a sampled column stays in its block, and is not past the column
+  pub step-block : (x : ℕ) → onStep t x / t .block ≡ x / t .block
+  unfolding onStep
+  step-block x = sides (λ B s. x / s * s / B ≡ x / B) (omega arith) (omega arith) (omega arith) (omega arith)
+
+  pub step-le : (x : ℕ) → onStep t x ≤ x
+  unfolding onStep
+  step-le x = sides (λ B s. x / s * s ≤ x) (omega arith) (omega arith) (omega arith) (omega arith)
+
+-- ---- windows
+
+-- column b of a's window: at most one block to either side
+pub record Near (t : Tile) (a b : ℕ) : Type 0 where
+  pub right : b / t .block ≤ a / t .block + 1
+  pub left : a / t .block ≤ b / t .block + 1
+
+-- a window of a block with the edge on both sides
+pub near-block : (t : Tile) → Sound t → (a b : ℕ) → a / t .block * t .block - t .edge ≤ b → b < a / t .block * t .block + t .block + t .edge → Near t a b
+near-block t k a b p q =
+    record {
+      right =
+          sides t k (λ B s. b < a / B * B + B + t .edge → t .edge ≤ B → b / B ≤ a / B + 1)
+          (λ p q. omega arith) (λ p q. omega arith) (λ p q. omega arith) (λ p q. omega arith) q (k .edge);
+      left =
+          sides t k (λ B s. a / B * B - t .edge ≤ b → t .edge ≤ B → a / B ≤ b / B + 1)
+          (λ p q. omega arith) (λ p q. omega arith) (λ p q. omega arith) (λ p q. omega arith) p (k .edge);
+    }
+
+pub near-col : (t : Tile) → Sound t → (a b : ℕ) → nearCol t a b ≡ true → Near t a b × (b < t .wide)
+unfolding nearCol blockStart
+near-col t k a b h =
+    let w = and-both (leb (a / t .block * t .block - t .edge) b) (ltb b (min (a / t .block * t .block + t .block + t .edge) (t .wide))) h in
+    let l : a / t .block * t .block - t .edge ≤ b = leb-true (a / t .block * t .block - t .edge) b (w .0) in
+    let e : b < min (a / t .block * t .block + t .block + t .edge) (t .wide) = ltb-true b (min (a / t .block * t .block + t .block + t .edge) (t .wide)) (w .1) in
+    (near-block t k a b l (omega arith), omega arith)

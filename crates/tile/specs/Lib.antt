@@ -1,0 +1,4 @@
+pub mod Layout
+pub mod Owner
+pub mod Passes
+pub mod Sound

@@ -1,0 +1,1 @@
+// The trajectories' part of a load: definitions in specs/. There is no code here yet.
