@@ -9,7 +9,7 @@ use crate::fields;
 use crate::reference;
 use crate::rng::Rng;
 
-const SOURCE: &str = "awxkee/tealdust 9d7b0500a5";
+pub const SOURCE: &str = "awxkee/tealdust 9d7b0500a5";
 const LINES: usize = 300;
 const SMOOTH_LIMIT: i32 = 2_047;
 const GAP_LIMIT: i32 = 65_535;

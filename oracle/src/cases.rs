@@ -3,6 +3,10 @@ use crate::expected::FACTOR_LIMIT;
 use crate::reference;
 use crate::rng::Rng;
 
+pub mod directed;
+pub mod kept;
+pub mod load;
+mod refused;
 pub mod setup;
 
 const MIN: i32 = i32::MIN;

@@ -1,6 +1,7 @@
 //! The expected answers: the scope's refusals first, in its order, then the published functions.
-use crate::entry::{Frame, Header};
-use crate::reference;
+use crate::entry::{Frame, Header, Source};
+use crate::load::{BLOCK_BYTES, Call, Geometry, MAP_PLANES, SLOTS as SLOT_COUNT, Store};
+use crate::reference::{self, EMPTY_Y};
 
 /// The answer, or the refusal's number.
 pub type Answer<T> = Result<T, u32>;
@@ -89,4 +90,106 @@ pub fn setup(header: &Header) -> Answer<Frame> {
         Some(number) => Err(number),
         None => Ok(reference::init_frame(header)),
     }
+}
+
+/// Whether a refusal applies to a load.
+type Test = fn(&Call, &Store) -> bool;
+
+/// The number of the first of the refusals 9 to 12 that applies to a load, 0 for none.
+pub fn load_refusal(call: &Call, store: &Store) -> u32 {
+    let refused: [(u32, Test); 4] = [
+        (9, |call, _| setup_out_of_range(&call.setup)),
+        (10, |call, _| tile_broken(call)),
+        (11, too_short),
+        (12, |call, store| {
+            bad_block(call) || bad_trajectory(call, store)
+        }),
+    ];
+    let first = refused.iter().find(|(_, applies)| applies(call, store));
+    first.map_or(0, |&(number, _)| number)
+}
+
+fn setup_out_of_range(setup: &Frame) -> bool {
+    let side = 1..=SIDE_LIMIT;
+    let sources = &setup.sources;
+    !side.contains(&setup.width)
+        || !side.contains(&setup.height)
+        || setup.sb128 > SUPERBLOCK_LIMIT
+        || !matches!(setup.tmvp_sample_step, 1 | 2)
+        || setup.n_ref_frames > SLOT_COUNT
+        || sources.n_mfmvs > sources.mfmv.len()
+        || !sources.mfmv[..sources.n_mfmvs].iter().all(in_range)
+}
+
+fn in_range(source: &Source) -> bool {
+    let slot_or_none = -1..=6;
+    let factors = source.ref2sf0.iter().chain(&source.ref2sf1);
+    source.reference.value <= 6
+        && slot_or_none.contains(&source.tgt)
+        && source.dir <= 1
+        && (-32..=31).contains(&source.ref2cur)
+        && source.ref2ref.iter().all(|d| (-31..=31).contains(d))
+        && source
+            .ref2idx
+            .iter()
+            .all(|slot| slot_or_none.contains(slot))
+        && factors
+            .into_iter()
+            .all(|f| f.unsigned_abs() <= FACTOR_LIMIT)
+}
+
+fn tile_broken(call: &Call) -> bool {
+    let Geometry {
+        side, wide, high, ..
+    } = call.geometry();
+    let (left, right) = call.columns;
+    let (top, bottom) = call.rows;
+    let columns =
+        left < right && right <= wide && left % side == 0 && (right % side == 0 || right == wide);
+    let end = bottom == top + side || (high <= bottom && bottom <= top + side);
+    !(columns && top % side == 0 && top < high && end)
+}
+
+fn too_short(call: &Call, store: &Store) -> bool {
+    let geometry = call.geometry();
+    let field = geometry.field(call.whole_frame);
+    let traj = SLOT_COUNT * geometry.plane();
+    let map = MAP_PLANES * traj;
+    call.planes.len() < geometry.planes()
+        || store.field_y.len() < field
+        || store.field_x.len() < field
+        || store.field_ref.len() < field
+        || store.traj_y.len() < traj
+        || store.traj_x.len() < traj
+        || store.map_y.len() < map
+        || store.map_x.len() < map
+}
+
+fn bad_block(call: &Call) -> bool {
+    let geometry = call.geometry();
+    let sources = &call.setup.sources;
+    let read = sources.mfmv[..sources.n_mfmvs].iter().filter(|source| {
+        source.ref2cur != -32 && call.setup.rp_ref[source.reference.value as usize] != 0
+    });
+    for source in read {
+        let (slot, dir) = (source.reference.value as usize, source.dir as usize);
+        for y in (call.rows.0..call.bottom()).step_by(geometry.step) {
+            for x in (0..geometry.wide).step_by(geometry.step) {
+                let at = ((slot * geometry.high + y) * geometry.stride + x) * BLOCK_BYTES;
+                let block = &call.planes[at..at + BLOCK_BYTES];
+                let (reference, vector) = (block[4 + dir], &block[2 * dir..2 * dir + 2]);
+                let half = (vector[0] == -128) != (vector[1] == -128);
+                if !(-1..=6).contains(&reference) || reference != -1 && half {
+                    return true;
+                }
+            }
+        }
+    }
+    false
+}
+
+fn bad_trajectory(call: &Call, store: &Store) -> bool {
+    let count = SLOT_COUNT * call.geometry().plane();
+    let mut all = store.traj_y.iter().zip(&store.traj_x).take(count);
+    all.any(|(&y, &x)| (y, x) != (EMPTY_Y, 0) && past_range(y, x))
 }

@@ -1,8 +1,8 @@
 //! The numbers of header and record as the kept list has them, to list and to print.
-use crate::entry::{Frame, Header, OrderHint, Source};
+use crate::entry::{Frame, Header, OrderHint, Slot, Source, Sources, Tip};
 
 // Wide enough for every field, ref_flip too.
-type Number = i128;
+pub type Number = i128;
 
 fn numbers<T: Copy + Into<Number>>(values: &[T]) -> Vec<Number> {
     values.iter().map(|&value| value.into()).collect()
@@ -74,6 +74,70 @@ fn source(s: &Source) -> [(&'static str, Vec<Number>); 8] {
         ("ref2sf0", numbers(&s.ref2sf0)),
         ("ref2sf1", numbers(&s.ref2sf1)),
     ]
+}
+
+/// Numbers that are taken one after the other. None at the end, and for one that does not fit.
+struct Taken<'a>(std::slice::Iter<'a, i64>);
+
+impl Taken<'_> {
+    fn one<T: TryFrom<i64>>(&mut self) -> Option<T> {
+        self.0.next().and_then(|&n| n.try_into().ok())
+    }
+
+    fn array<T: TryFrom<i64> + Copy + Default, const N: usize>(&mut self) -> Option<[T; N]> {
+        let mut all = [T::default(); N];
+        for one in &mut all {
+            *one = self.one()?;
+        }
+        Some(all)
+    }
+
+    fn source(&mut self) -> Option<Source> {
+        Some(Source {
+            reference: Slot { value: self.one()? },
+            tgt: self.one()?,
+            dir: self.one()?,
+            ref2cur: self.one()?,
+            ref2ref: self.array()?,
+            ref2idx: self.array()?,
+            ref2sf0: self.array()?,
+            ref2sf1: self.array()?,
+        })
+    }
+}
+
+/// The record of the numbers that `frame` has.
+pub fn frame_of(numbers: &[i64]) -> Option<Frame> {
+    let mut all = Taken(numbers.iter());
+    // Fields are taken in the order in which they are written here.
+    let mut frame = Frame {
+        width: all.one()?,
+        height: all.one()?,
+        n_ref_frames: all.one()?,
+        sb128: all.one()?,
+        tmvp_sample_step: all.one()?,
+        tip_frame_mode: all.one()?,
+        tip_reference: all.array()?,
+        tip: Tip {
+            delta: all.one()?,
+            sf: all.array()?,
+        },
+        ref_flip: all.one()?,
+        rp_ref: all.array()?,
+        ref_sign: all.array()?,
+        pocdiff: all.array()?,
+        abspocdiff: all.array()?,
+        sources: Sources {
+            mfmv_mask: all.one()?,
+            ..Sources::default()
+        },
+        use_ref_frame_mvs: all.one()?,
+    };
+    frame.sources.n_mfmvs = all.one()?;
+    for source in &mut frame.sources.mfmv {
+        *source = all.source()?;
+    }
+    all.0.next().is_none().then_some(frame)
 }
 
 /// Numbers as a line has them.

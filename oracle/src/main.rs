@@ -1,10 +1,19 @@
 use std::io;
 use std::process::ExitCode;
 
-use oracle::{answers, args, compare, unpack};
+use oracle::loads::{self, Sides};
+use oracle::{answers, antt, args, compare, definitions, kept, unpack};
 
 const USAGE: &str = "usage: oracle compare [--seed N]
        oracle answers [--seed N]
+       oracle definitions [--seed N]
+       oracle definitions --natives
+       oracle loads COUNT [--seed N]
+       oracle loads --clauses COUNT [--seed N]
+       oracle loads --published COUNT [--seed N]
+       oracle loads --case N
+       oracle loads --keep [--seed N]
+       oracle loads --kept FILE
        oracle unpack < BYTES
        oracle bytes COUNT [--seed N]";
 
@@ -14,6 +23,28 @@ fn run(args: &[String]) -> Option<io::Result<bool>> {
     match (name.as_str(), rest) {
         ("compare", _) => Some(Ok(compare::run(args::seed(rest)?))),
         ("answers", _) => Some(answers::write(args::seed(rest)?).map(|()| true)),
+        ("definitions", [natives]) if natives == "--natives" => {
+            print!("{}", antt::natives::text());
+            Some(Ok(true))
+        }
+        ("definitions", _) => Some(Ok(definitions::run(args::seed(rest)?))),
+        ("loads", [keep, rest @ ..]) if keep == "--keep" => {
+            Some(kept::write(args::seed(rest)?).map(|()| true))
+        }
+        ("loads", [kept, file]) if kept == "--kept" => Some(loads::kept(file)),
+        ("loads", [case, seed]) if case == "--case" => Some(loads::one(seed.parse().ok()?)),
+        ("loads", [published, count, rest @ ..]) if published == "--published" => {
+            let count = count.parse().ok()?;
+            Some(loads::run(args::seed(rest)?, count, Sides::Published))
+        }
+        ("loads", [clauses, count, rest @ ..]) if clauses == "--clauses" => {
+            let count = count.parse().ok()?;
+            Some(loads::run(args::seed(rest)?, count, Sides::Clauses))
+        }
+        ("loads", [count, rest @ ..]) => {
+            let count = count.parse().ok()?;
+            Some(loads::run(args::seed(rest)?, count, Sides::Both))
+        }
         ("unpack", []) => Some(unpack::run().map(|()| true)),
         ("bytes", [count, rest @ ..]) => {
             let count = count.parse().ok()?;

@@ -2,7 +2,9 @@
 use crate::levels::{INVALID_MV, Mv};
 use crate::refmvs::{self, QMv, SnglMvBlock};
 
+mod load;
 mod setup;
+pub use load::load_tmvs;
 pub use setup::{Decoder, init_frame};
 
 pub const EMPTY_Y: i32 = INVALID_MV;
