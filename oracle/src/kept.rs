@@ -36,8 +36,10 @@ struct Run {
 
 pub fn write(seed: u64) -> io::Result<()> {
     let mut out = BufWriter::new(io::stdout().lock());
+    let all = cases::kept::all(seed);
     write!(out, "{}", head(seed))?;
-    for (n, (name, case)) in cases::kept::all(seed).iter().enumerate() {
+    writeln!(out, "# The longest lists: {}", fields::text(longest(&all)))?;
+    for (n, (name, case)) in all.iter().enumerate() {
         write!(out, "# {name}\n{}", case_text(n + 1, case))?;
     }
     out.flush()
@@ -66,6 +68,22 @@ fn head(seed: u64) -> String {
     )
 }
 
+/// Each list's greatest length: what a reader needs room for.
+fn longest(all: &[(String, Case)]) -> [Number; LISTS] {
+    let mut most = [0; LISTS];
+    for (_, case) in all {
+        for (most, list) in most.iter_mut().zip(lists(case)) {
+            *most = (*most).max(list.len() as Number);
+        }
+    }
+    most
+}
+
+fn lists(case: &Case) -> Vec<Vec<i64>> {
+    let store = case.store.lists().map(|(_, list)| list).into_iter();
+    store.chain([wide(&case.calls[0].planes)]).collect()
+}
+
 fn line(word: &str, numbers: impl IntoIterator<Item = Number>) -> String {
     format!("{word} {}\n", fields::text(numbers))
 }
@@ -82,16 +100,13 @@ fn run_lines(word: &str, list: usize, runs: &[Run]) -> String {
 
 /// All lines of a case. Its calls have planes of one length.
 fn case_text(n: usize, case: &Case) -> String {
-    let first = &case.calls[0];
-    let (mut store, mut planes) = (case.store.clone(), wide(&first.planes));
-    let lists = store.lists().map(|(_, list)| list).into_iter();
-    let lists: Vec<Vec<i64>> = lists.chain([planes.clone()]).collect();
+    let (mut store, mut lists) = (case.store.clone(), lists(case));
     let lengths = lists.iter().map(|list| list.len() as Number);
     let mut text = line("case", [n as Number].into_iter().chain(lengths));
     for (at, list) in lists.iter().enumerate() {
         text += &run_lines("set", at, &contents(list, period(at)));
     }
-    let mut setup = None;
+    let (mut setup, mut planes) = (None, lists.swap_remove(PLANES));
     for call in &case.calls {
         if setup != Some(call.setup) {
             let record = fields::frame(&call.setup).into_iter();

@@ -189,6 +189,19 @@ pub fn all() -> Vec<Directed> {
             |call, store| traj(call, store, 0, 0, 8) == [EMPTY_Y, 0],
         ),
         directed_case(
+            "second half through a place past the window",
+            // Slot 2's trajectory at (0, 4) comes from column 15, which is not in the window of its block.
+            Plain::new(24, 8, 0, 1)
+                .source(2, 1, -1, [16_384, 0])
+                .source(0, 0, 2, [0, 0])
+                .block(2, 0, 15, [0, -102])
+                .block(0, 0, 10, [0, 84])
+                .on(keep),
+            |call, store| {
+                traj(call, store, 2, 0, 4) == [0, 704] && traj(call, store, 0, 0, 4) == [EMPTY_Y, 0]
+            },
+        ),
+        directed_case(
             "second half from another block's rows",
             Plain::new(16, 16, 1, 1)
                 .source(1, 1, 2, [0, 507_904])

@@ -28,11 +28,11 @@ fn plain(wide: u32, high: u32, step: u8) -> Plain {
     frame.block(0, 0, 2, [9, -40])
 }
 
-/// The case's call with each change in turn; what one call leaves, the next one is lent.
-fn changed(case: Case, changes: &[&dyn Fn(&mut Call)]) -> Case {
-    let calls = changes.iter().map(|change| {
+/// The case's call, changed by each in turn; what one call leaves, the next one is lent.
+fn calls<C>(case: Case, changes: impl IntoIterator<Item = C>, by: fn(&mut Call, C)) -> Case {
+    let calls = changes.into_iter().map(|change| {
         let mut call = case.calls[0].clone();
-        change(&mut call);
+        by(&mut call, change);
         call
     });
     Case {
@@ -44,20 +44,15 @@ fn changed(case: Case, changes: &[&dyn Fn(&mut Call)]) -> Case {
 
 fn emptied(_: &mut Store) {}
 
-fn setups(case: Case, changes: &[fn(&mut Frame)]) -> Case {
-    let changes: Vec<_> = changes
-        .iter()
-        .map(|change| move |call: &mut Call| change(&mut call.setup))
-        .collect();
-    let changes: Vec<&dyn Fn(&mut Call)> = changes.iter().map(|change| change as _).collect();
-    changed(case, &changes)
+fn setups<const N: usize>(case: Case, changes: [fn(&mut Frame); N]) -> Case {
+    calls(case, changes, |call, change| change(&mut call.setup))
 }
 
 fn frames() -> Case {
     let case = plain(12, 8, 2).on(emptied);
     setups(
         case,
-        &[
+        [
             |f| f.width = 0,
             |f| f.width = 65_537,
             // In range, but the lists are too short: 11.
@@ -85,7 +80,7 @@ fn sources() -> Case {
     let case = plain(12, 8, 1).on(emptied);
     setups(
         case,
-        &[
+        [
             |f| first(f).reference.value = 7,
             |f| first(f).reference.value = 6,
             |f| first(f).tgt = -2,
@@ -115,22 +110,18 @@ fn sources() -> Case {
     )
 }
 
-fn tiled(case: Case, tiles: &[[usize; 4]]) -> Case {
-    let changes: Vec<_> = tiles
-        .iter()
-        .map(|&[left, right, top, bottom]| {
-            move |call: &mut Call| (call.columns, call.rows) = ((left, right), (top, bottom))
-        })
-        .collect();
-    let changes: Vec<&dyn Fn(&mut Call)> = changes.iter().map(|change| change as _).collect();
-    changed(case, &changes)
+/// Columns from and to, rows from and to.
+fn tiled<const N: usize>(case: Case, tiles: [[usize; 4]; N]) -> Case {
+    calls(case, tiles, |call, [left, right, top, bottom]| {
+        (call.columns, call.rows) = ((left, right), (top, bottom));
+    })
 }
 
 fn tiles() -> Case {
     let case = plain(20, 12, 1).block(0, 8, 10, [1, 2]).on(emptied);
     tiled(
         case,
-        &[
+        [
             [4, 8, 0, 8],
             [0, 4, 0, 8],
             [0, 12, 0, 8],
@@ -159,7 +150,7 @@ fn tiles() -> Case {
 
 fn rows() -> Case {
     let case = plain(8, 8, 2).on(emptied);
-    tiled(case, &[[0, 8, 0, 16], [0, 8, 8, 16], [0, 8, 0, 8]])
+    tiled(case, [[0, 8, 0, 16], [0, 8, 8, 16], [0, 8, 0, 8]])
 }
 
 fn less<T>(list: &mut Vec<T>) {
@@ -168,7 +159,8 @@ fn less<T>(list: &mut Vec<T>) {
 
 /// Each list one element short; of the field also in whole-frame mode.
 fn short_lists() -> Vec<Named> {
-    let cut: [(&str, fn(&mut Call, &mut Store)); 8] = [
+    type Cut = fn(&mut Call, &mut Store);
+    let cut: [(&str, Cut); 8] = [
         ("field y", |_, store| less(&mut store.field_y)),
         ("field x", |_, store| less(&mut store.field_x)),
         ("field bytes", |_, store| less(&mut store.field_ref)),
@@ -198,35 +190,33 @@ fn blocks() -> Case {
         directed::block_at(&g, planes, 0, y, x).copy_from_slice(&bytes);
     }
     let frame = plain(12, 10, 2).with(|call| call.columns = (0, 8));
-    changed(
-        frame.on(emptied),
-        &[
-            &|call| put(call, 2, 2, [0, 0, 0, 0, 7, -1]),
-            &|call| put(call, 2, 2, [0, 0, 0, 0, -2, -1]),
-            &|call| put(call, 6, 6, [0, 0, 0, 0, -128, -1]),
-            &|call| put(call, 2, 2, [-128, 0, 0, 0, 0, -1]),
-            &|call| put(call, 2, 2, [127, -128, 0, 0, 6, -1]),
-            &|call| put(call, 2, 10, [0, 0, 0, 0, 7, -1]),
-            // These are accepted: both marks, no reference, not sampled, another row, past W, another direction.
-            &|call| put(call, 2, 2, [-128, -128, 0, 0, 6, -1]),
-            &|call| put(call, 2, 2, [-128, 5, 0, 0, -1, -1]),
-            &|call| put(call, 1, 2, [0, 0, 0, 0, 7, -1]),
-            &|call| put(call, 2, 3, [0, 0, 0, 0, 7, -1]),
-            &|call| put(call, 8, 2, [0, 0, 0, 0, 7, -1]),
-            &|call| put(call, 2, 12, [0, 0, 0, 0, 7, -1]),
-            &|call| put(call, 2, 2, [0, 0, -128, 0, 0, 7]),
-            // A source that is skipped, and one with no plane.
-            &|call| {
-                put(call, 2, 2, [0, 0, 0, 0, 7, -1]);
-                call.setup.sources.mfmv[0].ref2cur = -32;
-            },
-            &|call| {
-                put(call, 2, 2, [0, 0, 0, 0, 7, -1]);
-                call.setup.rp_ref[0] = 0;
-            },
-            &|_| {},
-        ],
-    )
+    let changes: [fn(&mut Call); 16] = [
+        |call| put(call, 2, 2, [0, 0, 0, 0, 7, -1]),
+        |call| put(call, 2, 2, [0, 0, 0, 0, -2, -1]),
+        |call| put(call, 6, 6, [0, 0, 0, 0, -128, -1]),
+        |call| put(call, 2, 2, [-128, 0, 0, 0, 0, -1]),
+        |call| put(call, 2, 2, [127, -128, 0, 0, 6, -1]),
+        |call| put(call, 2, 10, [0, 0, 0, 0, 7, -1]),
+        // These are accepted: both marks, no reference, not sampled, another row, past W, another direction.
+        |call| put(call, 2, 2, [-128, -128, 0, 0, 6, -1]),
+        |call| put(call, 2, 2, [-128, 5, 0, 0, -1, -1]),
+        |call| put(call, 1, 2, [0, 0, 0, 0, 7, -1]),
+        |call| put(call, 2, 3, [0, 0, 0, 0, 7, -1]),
+        |call| put(call, 8, 2, [0, 0, 0, 0, 7, -1]),
+        |call| put(call, 2, 12, [0, 0, 0, 0, 7, -1]),
+        |call| put(call, 2, 2, [0, 0, -128, 0, 0, 7]),
+        // A source that is skipped, and one with no plane.
+        |call| {
+            put(call, 2, 2, [0, 0, 0, 0, 7, -1]);
+            call.setup.sources.mfmv[0].ref2cur = -32;
+        },
+        |call| {
+            put(call, 2, 2, [0, 0, 0, 0, 7, -1]);
+            call.setup.rp_ref[0] = 0;
+        },
+        |_| {},
+    ];
+    calls(frame.on(emptied), changes, |call, change| change(call))
 }
 
 /// One trajectory in the last column of the stride, or behind the stated length.
