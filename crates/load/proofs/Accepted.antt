@@ -1,11 +1,11 @@
 -- What tests 9 to 12 say of an accepted call. Assumes nothing.
 use mathlib.Core.Path.{_≡_, refl, sym, subst}
-use mathlib.Core.Bool.{Bool, true, false, not, cond, _&&_, _||_}
+use mathlib.Core.Bool.{Bool, true, false, not, cond, _&&_, _||_, true≢false}
 use mathlib.Core.Logic.{_⊎_, inl, inr}
-use Prim.Native.Nat.{ℕ, zero, suc, _+_, _-_, _/_, _%_, _≤_, _<_}
-use native.Mathlib.Nat.{mul-mod-left}
+use Prim.Native.Nat.{ℕ, zero, suc, _+_, _-_, _*_, _/_, _%_, _≤_, _<_, min}
+use native.Mathlib.Nat.{mul-mod-left, mul-le-mul}
 use native.Mathlib.Omega.{arith}
-use borrow.Author.Tests.{leb-true, ltb-true, eqb-true, eqb-false}
+use borrow.Author.Tests.{leb-true, ltb-true, ltb-false, eqb-true, eqb-false}
 use lib.Dec.{eqb, leb, ltb}
 use lib.IntN.{ℤ}
 use lib.ListN.{getD}
@@ -61,7 +61,18 @@ pub record InRange (f : Frame) : Type 0 where
   pub code : f .sb128 ≤ 2
   pub stepLow : 1 ≤ f .«tmvp_sample_step»
   pub stepHigh : f .«tmvp_sample_step» ≤ 2
+  pub width : f .width ≤ 65536
+  pub height : f .height ≤ 65536
   pub sources : (n : ℕ) → n < f .sources .«n_mfmvs» → sourceInRange (getD (f .sources .mfmv) n noSource) ≡ true
+
+size-low : (n : ℕ) → not (badSize n) ≡ true → n ≤ 65536
+unfolding badSize
+size-low n h = go (eqb n 0) (ltb 65536 n) refl (not-false (cond (eqb n 0) true (ltb 65536 n)) h)
+  where
+    go : (p q : Bool) → ltb 65536 n ≡ q → cond p true q ≡ false → n ≤ 65536
+    go true q e h = absurd (true≢false h)
+    go false true e h = absurd (true≢false h)
+    go false false e h = ltb-false 65536 n e
 
 pub in-range : (f : Frame) → setupInRange f ≡ true → InRange f
 unfolding setupInRange
@@ -86,14 +97,38 @@ in-range f h =
       code = leb-true (f .sb128) 2 (e2 .1);
       stepLow = omega arith;
       stepHigh = leb-true (f .«tmvp_sample_step») 2 (e4 .1);
+      width = size-low (f .width) (e5 .1);
+      height = size-low (f .height) (e6 .1);
       sources = all-below (f .sources .«n_mfmvs») (λ n. sourceInRange (getD (f .sources .mfmv) n noSource)) (e8 .1);
     }
 
--- test 10, taken apart as far as columns go
+-- test 10, taken apart
 pub record Columns (c : Call) : Type 0 where
   pub some : c .colStart < c .colEnd
   pub wide : c .colEnd ≤ wideOf (c .setup)
   pub start : c .colStart % sideOf (c .setup) ≡ 0
+  pub top : c .rowStart % sideOf (c .setup) ≡ 0
+  pub rows : c .rowStart < min (c .rowEnd) (highOf (c .setup))
+  pub bottom : min (c .rowEnd) (highOf (c .setup)) ≤ c .rowStart + sideOf (c .setup)
+
+-- the rows' end, cut at the frame's, S rows on at most
+row-end : (a b H S : ℕ) → a < H → 0 < S → (eqb b (a + S) || (leb H b && leb b (a + S))) ≡ true → (a < min b H) × (min b H ≤ a + S)
+row-end a b H S l z h = go (eqb b (a + S)) refl h
+  where
+    go : (p : Bool) → eqb b (a + S) ≡ p → (p || (leb H b && leb b (a + S))) ≡ true → (a < min b H) × (min b H ≤ a + S)
+    go true e h = let q : b ≡ a + S = eqb-true b (a + S) e in (omega arith, omega arith)
+    go false e h =
+        let w = and-both (leb H b) (leb b (a + S)) h in
+        let p : H ≤ b = leb-true H b (w .0) in let q : b ≤ a + S = leb-true b (a + S) (w .1) in
+        (omega arith, omega arith)
+
+side-some : (f : Frame) → 0 < sideOf f
+side-some f = go (eqb (f .sb128) 0) (eqb (f .sb128) 1)
+  where
+    go : (p q : Bool) → 0 < cond p 8 (cond q 16 32)
+    go true q = omega arith
+    go false true = omega arith
+    go false false = omega arith
 
 pub columns : (c : Call) → tileFits c ≡ true → Columns c
 unfolding tileFits
@@ -113,10 +148,14 @@ columns c h =
     let e4 = and-both (t1 && t2 && t3) t4 (e5 .0) in
     let e3 = and-both (t1 && t2) t3 (e4 .0) in
     let e2 = and-both t1 t2 (e3 .0) in
+    let r = row-end (c .rowStart) (c .rowEnd) H S (ltb-true (c .rowStart) H (e6 .1)) (side-some (c .setup)) (e7 .1) in
     record {
       some = ltb-true (c .colStart) (c .colEnd) (e2 .0);
       wide = leb-true (c .colEnd) W (e2 .1);
       start = eqb-true (c .colStart % S) 0 (e3 .1);
+      top = eqb-true (c .rowStart % S) 0 (e5 .1);
+      rows = r .0;
+      bottom = r .1;
     }
 
 -- S and B by the code and the step
@@ -153,6 +192,10 @@ edge-even f r = go (eqb (f .«tmvp_sample_step») 2) refl
         let k : f .«tmvp_sample_step» ≡ 1 = omega (arith, r .stepLow, r .stepHigh) in
         subst (λ (n : ℕ). blockOf f / 2 % n ≡ 0) (sym k) (omega arith)
 
+offset-low : (whole : Bool) (a b : ℕ) → a ≤ 8192 → b ≤ 8192 → cond whole a 3 * b ≤ 67108864
+offset-low true a b h l = mul-le-mul h l
+offset-low false a b h l = omega arith
+
 pub sound : (c : Call) → InRange (c .setup) → Columns c → Sound (tileOf c)
 unfolding tileOf
 sound c r k =
@@ -169,4 +212,14 @@ sound c r k =
       wide = omega arith;
       stride = omega arith;
       offset = mul-mod-left (cond (c .wholeFrame) (c .rowStart) 3) (strideOf f);
+      topOnSide = k .top;
+      topOnBlock = sizes (λ S B s. c .rowStart % S ≡ 0 → c .rowStart % B ≡ 0) f r (λ h. h) (λ h. h) (λ h. omega arith) (λ h. h) (λ h. omega arith) (λ h. omega arith) (k .top);
+      sideOnBlock = sizes (λ S B s. S % B ≡ 0) f r refl refl refl refl refl refl;
+      rows = k .rows;
+      bottom = k .bottom;
+      frameEnd = omega arith;
+      sideLow = sizes (λ S B s. S ≤ 32) f r (omega arith) (omega arith) (omega arith) (omega arith) (omega arith) (omega arith);
+      strideLow = omega (arith, r .width);
+      highLow = omega (arith, r .height);
+      offsetLow = offset-low (c .wholeFrame) (c .rowStart) (strideOf f) (omega (arith, k .rows, r .height)) (omega (arith, r .width));
     }

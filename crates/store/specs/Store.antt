@@ -21,6 +21,10 @@ pub record Store : Type 0 where
 abbrev pub pack : List ℤ → List ℤ → List ℕ → List ℤ → List ℤ → List ℤ → List ℤ → Store
 pack fy fx fr ty tx my mx = record { fieldY = fy; fieldX = fx; fieldRef = fr; trajY = ty; trajX = tx; mapY = my; mapX = mx }
 
+-- a store with another field
+abbrev pub withField : Store → List ℤ → List ℤ → List ℕ → Store
+withField s fy fx fr = pack fy fx fr (s .trajY) (s .trajX) (s .mapY) (s .mapX)
+
 -- the kinds of cells: field vectors, their reference bytes, trajectories, maps
 pub data Kind : Type 0 where
   fieldMvs : Kind

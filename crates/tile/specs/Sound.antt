@@ -1,7 +1,7 @@
--- What holds of the layout and of the columns of an accepted call. For contracts and proofs. Assumes nothing.
+-- What holds of the layout, the columns and the rows of an accepted call. For contracts and proofs. Assumes nothing.
 use mathlib.Core.Path.{_≡_}
 use mathlib.Core.Logic.{_⊎_}
-use Prim.Native.Nat.{_%_, _≤_, _<_}
+use Prim.Native.Nat.{_+_, _%_, _≤_, _<_}
 use Rattle.tile.specs.declared.Tile.{Tile}
 
 pub record Sound (t : Tile) : Type 0 where
@@ -16,3 +16,15 @@ pub record Sound (t : Tile) : Type 0 where
   pub wide : t .wide ≤ t .stride
   pub stride : t .stride % 16 ≡ 0
   pub offset : t .offset % t .stride ≡ 0
+  -- the rows are of one superblock row
+  pub topOnSide : t .top % t .side ≡ 0
+  pub topOnBlock : t .top % t .block ≡ 0
+  pub sideOnBlock : t .side % t .block ≡ 0
+  pub rows : t .top < t .bottom
+  pub bottom : t .bottom ≤ t .top + t .side
+  pub frameEnd : t .bottom ≤ t .high
+  -- numbers are small: places in the store have 32 bits
+  pub sideLow : t .side ≤ 32
+  pub strideLow : t .stride ≤ 8192
+  pub highLow : t .high ≤ 8192
+  pub offsetLow : t .offset ≤ 67108864
