@@ -10,6 +10,7 @@ ghost use Rattle.levels.specs.Answer.{says};
 ghost use Rattle.mv.specs.Projection.{pastRange, reciprocal, reciprocals, projectionFactor, scaledBy, scaledVector, mvProjection, scaleMv};
 ghost use Rattle.mv.specs.Packing.{packCode, unpackMag, packed, unpacked};
 ghost use Rattle.mv.specs.Averages.{smoothed, gapMean, SumOf, Averaged};
+ghost use Rattle.mv.specs.Sums.{isEmpty};
 use levels::Mv;
 use levels::MvAnswer;
 use levels::QMv;
@@ -254,4 +255,11 @@ pub fn gap_average(sum: i64, n: usize) -> i32
     ensures { λ r. ⌜ r ≡ gapMean n sum ⌝ }
 {
     average_of(sum, n, gap_idiv(n), 8)
+}
+
+// Is a vector empty (01's term)?
+pub fn is_empty(mv: Mv) -> bool
+    ensures { λ r. ⌜ r ≡ isEmpty mv ⌝ }
+{
+    mv.y == levels::INVALID_MV
 }

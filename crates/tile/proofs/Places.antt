@@ -3,7 +3,7 @@ use mathlib.Core.Path.{_≡_, sym, ap, _∙_}
 use mathlib.Core.Logic.{_⊎_, inl, inr}
 use mathlib.Core.Bool.{true}
 use Prim.Native.Nat.{ℕ, _+_, _-_, _*_, _/_, _%_, _≤_, _<_, min}
-use native.Mathlib.Nat.{add-mul, mul-assoc, mod-lt, div-add-mod'}
+use native.Mathlib.Nat.{add-mul, mul-assoc, mul-le-mul, mod-lt, div-add-mod'}
 use native.Mathlib.Omega.{arith}
 use borrow.Author.Tests.{leb-true, ltb-true}
 use lib.Dec.{leb, ltb}
@@ -50,6 +50,36 @@ module _ (t : Tile) (k : Sound t) where
   pub field-low : (y x : ℕ) → x < t .stride → fieldAt t y x < t .offset + rowCells t
   unfolding fieldAt
   field-low y x h = omega (arith, place-low y x h)
+
+  -- a row of the superblock row, counted from the tile's first
+  pub row-of : (y : ℕ) → t .top ≤ y → y < t .top + t .side → y % t .side ≡ y - t .top
+  row-of y p q =
+      let o : t .top ≡ t .top / t .side * t .side = sym (div-add-mod' (t .top) (t .side)) ∙ omega (arith, k .topOnSide) in
+      let l : y - t .top < t .side = omega arith in
+      let e : y ≡ t .top / t .side * t .side + (y - t .top) = omega arith in
+      ap (λ (i : ℕ). i % t .side) e ∙ digits-mod (t .top / t .side) l
+
+  -- a field cell as code finds it
+  pub field-is : (y x : ℕ) → t .top ≤ y → y < t .top + t .side → t .offset + ((y - t .top) * t .stride + x) ≡ fieldAt t y x
+  unfolding fieldAt place
+  field-is y x p q = rw (row-of y p q)
+
+  -- in the superblock row
+  pub row-in : (y x : ℕ) → t .top ≤ y → y < t .top + t .side → x < t .stride → (y - t .top) * t .stride + x < rowCells t
+  unfolding rowCells
+  row-in y x p q h = let l : y - t .top < t .side = omega arith in digits-lt l h
+
+  -- places have 32 bits
+  pub cells-low : t .offset + rowCells t ≤ 67371008
+  unfolding rowCells
+  cells-low = let m : t .side * t .stride ≤ 32 * 8192 = mul-le-mul (k .sideLow) (k .strideLow) in omega (arith, k .offsetLow)
+
+  -- the place of a cell: within lists that reach to the end of the superblock row
+  pub at-low : (i y x : ℕ) → i ≡ fieldAt t y x → x < t .stride → (i < t .offset + rowCells t) × (t .offset + rowCells t ≤ 67371008)
+  at-low i y x e h = (rw e (field-low y x h), cells-low)
+
+  pub col-low : (x : ℕ) → x < t .right → x < t .stride
+  col-low x h = omega (arith, k .right, k .wide)
 
   -- plane j of a list of planes
   plane-col : (j y x : ℕ) → x < t .stride → (j * rowCells t + place t y x) % t .stride ≡ x

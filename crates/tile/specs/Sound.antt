@@ -1,8 +1,12 @@
 -- What holds of the layout, the columns and the rows of an accepted call. For contracts and proofs. Assumes nothing.
 use mathlib.Core.Path.{_≡_}
 use mathlib.Core.Logic.{_⊎_}
-use Prim.Native.Nat.{_+_, _%_, _≤_, _<_}
+use mathlib.Core.List.{List}
+use Prim.Native.Nat.{ℕ, _+_, _%_, _≤_, _<_, min}
+use lib.IntN.{ℤ}
+use lib.ListN.{length}
 use Rattle.tile.specs.declared.Tile.{Tile}
+use Rattle.tile.specs.Layout.{rowCells}
 
 pub record Sound (t : Tile) : Type 0 where
   pub side : 0 < t .side
@@ -28,3 +32,26 @@ pub record Sound (t : Tile) : Type 0 where
   pub strideLow : t .stride ≤ 8192
   pub highLow : t .high ≤ 8192
   pub offsetLow : t .offset ≤ 67108864
+
+-- a cell of the tile
+pub record InTile (t : Tile) (y x : ℕ) : Type 0 where
+  pub top : t .top ≤ y
+  pub bottom : y < t .bottom
+  pub left : t .left ≤ x
+  pub right : x < t .right
+
+-- a sampled cell of the block whose columns are sx up to xend
+pub record Sample (t : Tile) (sx xend y x : ℕ) : Type 0 where
+  pub cell : InTile t y x
+  pub left : t .left ≤ sx
+  pub from : sx ≤ x
+  pub to : x < xend
+  pub end : xend ≡ min (t .right) (sx + t .block)
+  pub row : y % t .step ≡ 0
+  pub col : x % t .step ≡ 0
+
+-- the field's lists reach to the end of the superblock row
+pub record FieldHeld (t : Tile) (fy fx : List ℤ) (fr : List ℕ) : Type 0 where
+  pub y : t .offset + rowCells t ≤ length fy
+  pub x : t .offset + rowCells t ≤ length fx
+  pub ref : t .offset + rowCells t ≤ length fr
