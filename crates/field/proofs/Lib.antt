@@ -1,2 +1,4 @@
 pub mod Owned
+pub mod Samples
+pub mod Ways
 pub mod Keeps

@@ -24,7 +24,7 @@ use Rattle.field.specs.Field.{copyAbove, emptyField, projectTip, tipProj
 
 module _ (t : Tile) (k : Sound t) where
   -- the rows above: a cell of the store's first three rows, before the superblock row
-  own-above : (r x : ℕ) → r < 3 → t .offset ≡ 3 * t .stride → ownBlock t (x / t .block + 1) ≡ true
+  pub own-above : (r x : ℕ) → r < 3 → t .offset ≡ 3 * t .stride → ownBlock t (x / t .block + 1) ≡ true
       → (owns t fieldMvs (r * t .stride + x) ≡ true) × (owns t fieldRefs (r * t .stride + x) ≡ true)
   own-above r x l e h =
       let m : r * t .stride + x < 3 * t .stride = digits-lt l (mine-low t k x h) in

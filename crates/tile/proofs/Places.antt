@@ -3,7 +3,7 @@ use mathlib.Core.Path.{_≡_, sym, ap, _∙_}
 use mathlib.Core.Logic.{_⊎_, inl, inr}
 use mathlib.Core.Bool.{true}
 use Prim.Native.Nat.{ℕ, _+_, _-_, _*_, _/_, _%_, _≤_, _<_, min}
-use native.Mathlib.Nat.{add-mul, mul-assoc, mul-le-mul, mod-lt, div-add-mod'}
+use native.Mathlib.Nat.{add-mul, mul-assoc, mul-le-mul, mod-lt, mod-eq-of-lt, div-add-mod'}
 use native.Mathlib.Omega.{arith}
 use borrow.Author.Tests.{leb-true, ltb-true}
 use lib.Dec.{leb, ltb}
@@ -29,6 +29,9 @@ module _ (t : Tile) (k : Sound t) where
 
   pub step-some : 0 < t .step
   step-some = sides (λ B s. 0 < s) (omega arith) (omega arith) (omega arith) (omega arith)
+
+  pub small : (0 < t .step) × (t .step ≤ 2) × (0 < t .block) × (t .block ≤ 16)
+  small = sides (λ B s. (0 < s) × (s ≤ 2) × (0 < B) × (B ≤ 16)) (omega arith) (omega arith) (omega arith) (omega arith)
 
   pub row-low : (y : ℕ) → y % t .side < t .side
   row-low y = mod-lt y (k .side)
@@ -64,10 +67,22 @@ module _ (t : Tile) (k : Sound t) where
   unfolding fieldAt place
   field-is y x p q = rw (row-of y p q)
 
+  -- a cell of its last three rows
+  pub side-some : 8 ≤ t .side
+  side-some = sides (λ B s. t .side % B ≡ 0 → 8 ≤ t .side) (λ h. omega (arith, k .side)) (λ h. omega (arith, k .side)) (λ h. omega (arith, k .side)) (λ h. omega (arith, k .side)) (k .sideOnBlock)
+
+  pub last-is : (r x : ℕ) → r < 3 → t .offset + ((t .side - 3 + r) * t .stride + x) ≡ fieldAt t (t .side - 3 + r) x
+  unfolding fieldAt place
+  last-is r x h = rw (mod-eq-of-lt {n = t .side - 3 + r} {m = t .side} (omega (arith, side-some)))
+
   -- in the superblock row
   pub row-in : (y x : ℕ) → t .top ≤ y → y < t .top + t .side → x < t .stride → (y - t .top) * t .stride + x < rowCells t
   unfolding rowCells
   row-in y x p q h = let l : y - t .top < t .side = omega arith in digits-lt l h
+
+  pub last-in : (r x : ℕ) → r < 3 → x < t .stride → (t .side - 3 + r) * t .stride + x < rowCells t
+  unfolding rowCells
+  last-in r x p h = let l : t .side - 3 + r < t .side = omega (arith, side-some) in digits-lt l h
 
   -- places have 32 bits
   pub cells-low : t .offset + rowCells t ≤ 67371008
