@@ -1,9 +1,11 @@
 -- The loops over a tile's sampled cells, as code runs them: what is left from where a loop is, on the lists as they are, is the whole of it on the lists where it began. Assumes nothing.
 use mathlib.Core.Path.{_≡_, refl, sym, ap, _∙_}
+use mathlib.Core.Bool.{true}
 use mathlib.Core.List.{List}
 use Prim.Native.Nat.{ℕ, _+_, _-_, _*_, _%_, _≤_, _<_, min}
 use native.Mathlib.Nat.{add-mod-right}
 use native.Mathlib.Omega.{arith}
+use borrow.Author.Tests.{leb-true, ltb-true}
 use lib.IntN.{ℤ}
 use lib.ListN.{length}
 use Rattle.loops.specs.Over.{spanBy}
@@ -12,9 +14,10 @@ use Rattle.store.specs.Store.{Store, withField}
 use Rattle.store.specs.Program.{Prog, run}
 use Rattle.tile.specs.declared.Tile.{Tile}
 use Rattle.tile.specs.Owner.{owns}
-use Rattle.tile.specs.Passes.{eachSample}
+use Rattle.tile.specs.Layout.{blockStart}
+use Rattle.tile.specs.Passes.{eachSample, hasLeft, hasRight, hasAbove, hasBelow}
 use Rattle.tile.specs.Sound.{Sound, InTile, Sample, FieldHeld}
-use Rattle.tile.proofs.Places.{sides, block-some, step-some}
+use Rattle.tile.proofs.Places.{sides, block-some, step-some, block-top}
 
 -- the field's three lists
 pub record Lists : Type 0 where
@@ -135,3 +138,25 @@ module _ (t : Tile) (f : ℕ → ℕ → ℕ → ℕ → Prog) where
           row = a .on;
           col = c .on;
         }
+
+-- a sampled cell's neighbours of the block are the tile's
+module _ (t : Tile) (k : Sound t) (sx xend y x : ℕ) (h : Sample t sx xend y x) where
+  pub left-in : hasLeft t sx x ≡ true → InTile t y (x - t .step)
+  left-in q =
+      let l : sx + t .step ≤ x = leb-true (sx + t .step) x q in let c = h .cell in
+      record { top = c .top; bottom = c .bottom; left = omega (arith, h .left); right = omega (arith, c .right) }
+
+  pub right-in : hasRight t xend x ≡ true → InTile t y (x + t .step)
+  right-in q =
+      let l : x + t .step < xend = ltb-true (x + t .step) xend q in let c = h .cell in
+      record { top = c .top; bottom = c .bottom; left = omega (arith, c .left); right = omega (arith, h .end) }
+
+  pub above-in : hasAbove t y ≡ true → InTile t (y - t .step) x
+  above-in q =
+      let l : blockStart t y + t .step ≤ y = leb-true (blockStart t y + t .step) y q in let c = h .cell in let b = block-top t k y (c .top) in
+      record { top = omega arith; bottom = omega (arith, c .bottom); left = c .left; right = c .right }
+
+  pub below-in : hasBelow t y ≡ true → InTile t (y + t .step) x
+  below-in q =
+      let l : y + t .step < min (blockStart t y + t .block) (t .bottom) = ltb-true (y + t .step) (min (blockStart t y + t .block) (t .bottom)) q in let c = h .cell in
+      record { top = omega (arith, c .top); bottom = omega arith; left = c .left; right = c .right }

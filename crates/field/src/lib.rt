@@ -7,11 +7,12 @@ ghost use lib.ListN.{length, getD};
 ghost use Rattle.mv.specs.Projection.{reciprocals};
 ghost use Rattle.mv.specs.Sums.{isEmpty};
 ghost use Rattle.store.specs.Store.{Store, fieldMvs, fieldRefs, vec, byteCell, rd, wr, withField};
-ghost use Rattle.store.specs.Program.{run};
-ghost use Rattle.tile.specs.Layout.{rowCells, fieldAt};
+ghost use Rattle.store.specs.Program.{run, when};
+ghost use Rattle.tile.specs.Layout.{rowCells, fieldAt, blockStart};
 ghost use Rattle.tile.specs.Owner.{owns};
+ghost use Rattle.tile.specs.Passes.{hasAbove, hasBelow};
 ghost use Rattle.tile.specs.Sound.{Sound, InTile, Sample, FieldHeld};
-ghost use Rattle.field.specs.Field.{asByte, projected, copyAbove, emptyField, projectTip, tipProjection};
+ghost use Rattle.field.specs.Field.{asByte, projected, copyAbove, emptyField, projectTip, tipProjection, fillHole, fillAround, fillHoles};
 use levels::Mv;
 use tile::Tile;
 
@@ -164,6 +165,159 @@ pub fn tip_projection(
             let mut x = sx;
             while x < xend {
                 project_tip(field_y, field_x, field_ref, table, t, delta, y, x);
+                x += t.step;
+            }
+            y += t.step;
+        }
+        sx += t.block;
+    }
+}
+
+fn less(a: usize, b: usize) -> usize
+    ensures { λ r. ⌜ r ≡ a - b ⌝ }
+{
+    if a < b { 0 } else { a - b }
+}
+
+// Where the block begins; its side is a power of two that the compiler cannot know.
+fn block_start(t: Tile, y: usize) -> usize
+    requires { ⌜ Sound t ⌝ }
+    ensures { λ r. ⌜ r ≡ blockStart t y ⌝ }
+{
+    if t.block == 8 { y / 8 * 8 } else { y / 16 * 16 }
+}
+
+// Has the block another sampled row above?
+fn has_above(t: Tile, y: usize) -> bool
+    requires { ⌜ Sound t × (y < t .bottom) ⌝ }
+    ensures { λ r. ⌜ r ≡ hasAbove t y ⌝ }
+{
+    block_start(t, y) + t.step <= y
+}
+
+// And below?
+fn has_below(t: Tile, y: usize) -> bool
+    requires { ⌜ Sound t × (y < t .bottom) ⌝ }
+    ensures { λ r. ⌜ r ≡ hasBelow t y ⌝ }
+{
+    let end = least(block_start(t, y) + t.block, t.bottom);
+    y + t.step < end
+}
+
+// v goes into a cell that is there and empty.
+fn fill_hole(
+    field_y: &mut [i32],
+    field_x: &mut [i32],
+    field_ref: &mut [u8],
+    there: bool,
+    t: Tile,
+    delta: i8,
+    v: Mv,
+    y: usize,
+    x: usize,
+)
+    requires { ⌜ Sound t × (there ≡ true → InTile t y x) × FieldHeld t (now «field_y») (now «field_x») (now «field_ref») ⌝ }
+    ensures { λ _. ⌜ ((s : Store) → withField s (now («field_y» .exit)) (now («field_x» .exit)) (now («field_ref» .exit))
+        ≡ run (owns t) (when there (fillHole t delta v y x)) (withField s (now («field_y» .entry)) (now («field_x» .entry)) (now («field_ref» .entry)))) ⌝ }
+{
+    if !there {
+        return;
+    }
+    let at = field_at(t, y, x);
+    let u = cell_at(field_y, field_x, at);
+    if !mv::is_empty(u) {
+        return;
+    }
+    put(field_y, field_x, field_ref, at, v, as_byte(delta));
+}
+
+// A cell that is not empty fills its empty neighbours of the block.
+fn fill_around(
+    field_y: &mut [i32],
+    field_x: &mut [i32],
+    field_ref: &mut [u8],
+    t: Tile,
+    delta: i8,
+    sx: usize,
+    xend: usize,
+    y: usize,
+    x: usize,
+)
+    requires { ⌜ Sound t × Sample t sx xend y x × FieldHeld t (now «field_y») (now «field_x») (now «field_ref») ⌝ }
+    ensures { λ _. ⌜ ((s : Store) → withField s (now («field_y» .exit)) (now («field_x» .exit)) (now («field_ref» .exit))
+        ≡ run (owns t) (fillAround t delta sx xend y x) (withField s (now («field_y» .entry)) (now («field_x» .entry)) (now («field_ref» .entry)))) ⌝ }
+{
+    let at = field_at(t, y, x);
+    let v = cell_at(field_y, field_x, at);
+    if mv::is_empty(v) {
+        return;
+    }
+    fill_hole(
+        field_y,
+        field_x,
+        field_ref,
+        sx + t.step <= x,
+        t,
+        delta,
+        v,
+        y,
+        less(x, t.step),
+    );
+    fill_hole(
+        field_y,
+        field_x,
+        field_ref,
+        x + t.step < xend,
+        t,
+        delta,
+        v,
+        y,
+        x + t.step,
+    );
+    fill_hole(
+        field_y,
+        field_x,
+        field_ref,
+        has_above(t, y),
+        t,
+        delta,
+        v,
+        less(y, t.step),
+        x,
+    );
+    fill_hole(
+        field_y,
+        field_x,
+        field_ref,
+        has_below(t, y),
+        t,
+        delta,
+        v,
+        y + t.step,
+        x,
+    );
+}
+
+// In place: what one cell has filled, the next may hand on.
+pub fn fill_holes(
+    field_y: &mut [i32],
+    field_x: &mut [i32],
+    field_ref: &mut [u8],
+    t: Tile,
+    delta: i8,
+)
+    requires { ⌜ Sound t × FieldHeld t (now «field_y») (now «field_x») (now «field_ref») ⌝ }
+    ensures { λ _. ⌜ ((s : Store) → withField s (now («field_y» .exit)) (now («field_x» .exit)) (now («field_ref» .exit))
+        ≡ run (owns t) (fillHoles t delta) (withField s (now («field_y» .entry)) (now («field_x» .entry)) (now («field_ref» .entry)))) ⌝ }
+{
+    let mut sx = t.left;
+    while sx < t.right {
+        let xend = least(t.right, sx + t.block);
+        let mut y = t.top;
+        while y < t.bottom {
+            let mut x = sx;
+            while x < xend {
+                fill_around(field_y, field_x, field_ref, t, delta, sx, xend, y, x);
                 x += t.step;
             }
             y += t.step;

@@ -4,12 +4,12 @@ use Prim.Native.Nat.{ℕ, zero, suc, _+_, _*_, _-_, _/_, _^_, _≤_, _<_}
 use native.Mathlib.Omega.{arith}
 use native.Mathlib.Nat.{mul-le-mul, mul-comm, mul-assoc, mul-zero, div-mul-le-self}
 use lib.Pow.{pow-mono, pow-pos}
-use lib.IntN.{ℤ, pos, negsuc, negℤ, natAbs, _-ℤ_, _*ℤ_}
-use mir.Syntax.{w32}
+use lib.IntN.{ℤ, pos, negsuc, negℤ, natAbs, _+ℤ_, _-ℤ_, _*ℤ_}
+use mir.Syntax.{w32, w64}
 use mir.Val.{SFits}
 use Rattle.intops.specs.Bounds.{Within}
 use Rattle.intops.specs.Rounding.{roundDiv, Nearest}
-use Rattle.intops.proofs.Signed.{signed, signed!, up, dn, ud, ud-neg, ud-minus, ud-mul}
+use Rattle.intops.proofs.Signed.{signed, signed!, up, dn, ud, ud-neg, ud-add, ud-minus, ud-mul}
 use Rattle.intops.proofs.Rounding.{quot, round-between, nearest-neg, round-neg}
 use Rattle.mv.specs.Averages.{average, smoothed, gapMean, SumOf, Averaged, SmoothedNearest, GapNearest}
 
@@ -19,6 +19,15 @@ sum-between : (n : ℕ) (s : ℤ) → SumOf n s → (up s ≤ n * 2147483647) ×
 sum-between n s h =
     let l = h .low in let u = h .high in
     (omega (signed, ud s), omega (signed, ud s, ud-neg (pos (n * 2147483648))))
+
+-- one component more, and few of them have 64 bits
+pub sum-more : (n : ℕ) (s z : ℤ) → SumOf n s → SFits w32 z → SumOf (n + 1) (s +ℤ z)
+sum-more n s z h f =
+    let b = sum-between n s h in let a = ud-add s z in let v = ud z in let m = ud-neg (pos ((n + 1) * 2147483648)) in
+    record { low = omega signed!; high = omega signed! }
+
+pub sum-wide : (n : ℕ) (s : ℤ) → n ≤ 5 → SumOf n s → SFits w64 s
+sum-wide n s l h = let b = sum-between n s h in omega signed
 
 -- (n * m) * k, where n * k is at most d
 times : (a n m k d : ℕ) → a ≤ n * m → n * k ≤ d → a * k ≤ m * d

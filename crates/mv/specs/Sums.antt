@@ -7,7 +7,7 @@ use Rattle.intops.specs.Choice.{eqZ}
 use Rattle.levels.specs.declared.Mv.{Mv}
 use Rattle.levels.specs.Vector.{empty}
 use Rattle.mv.specs.declared.Sum.{Sum}
-use Rattle.mv.specs.Averages.{smoothed, gapMean}
+use Rattle.mv.specs.Averages.{smoothed, gapMean, SumOf}
 
 -- is a vector empty (01's term)? Its y alone tells
 abbrev pub isEmpty : Mv → Bool
@@ -28,3 +28,8 @@ smoothedOf s = cond (eqb (s .n) 0) empty (record { y = smoothed (s .n) (s .y); x
 -- gap filling: the mean of 1 to 4 cells; of one it is the cell itself
 abbrev pub gapOf : Sum → Mv
 gapOf s = record { y = gapMean (s .n) (s .y); x = gapMean (s .n) (s .x) }
+
+-- what code asks of a sum: each component may be one of so many of 32 bits
+pub record Fair (s : Sum) : Type 0 where
+  pub y : SumOf (s .n) (s .y)
+  pub x : SumOf (s .n) (s .x)

@@ -1,7 +1,8 @@
 // Projection, scaling and packing of motion vectors, and the averages of the field's passes: the
 // leaves of refmvs.rs.
 ghost use mathlib.Core.Path.{_≡_};
-ghost use Prim.Native.Nat.{_<_, _≤_, _/_, _^_};
+ghost use mathlib.Core.Bool.{false};
+ghost use Prim.Native.Nat.{_+_, _<_, _≤_, _/_, _^_};
 ghost use lib.IntN.{pos, natAbs, _*ℤ_};
 ghost use Rattle.intops.specs.Choice.{withSign};
 ghost use Rattle.intops.specs.Bounds.{Within};
@@ -10,7 +11,7 @@ ghost use Rattle.levels.specs.Answer.{says};
 ghost use Rattle.mv.specs.Projection.{pastRange, reciprocal, reciprocals, projectionFactor, scaledBy, scaledVector, mvProjection, scaleMv};
 ghost use Rattle.mv.specs.Packing.{packCode, unpackMag, packed, unpacked};
 ghost use Rattle.mv.specs.Averages.{smoothed, gapMean, SumOf, Averaged};
-ghost use Rattle.mv.specs.Sums.{isEmpty};
+ghost use Rattle.mv.specs.Sums.{isEmpty, noSum, added, smoothedOf, gapOf, Fair};
 use levels::Mv;
 use levels::MvAnswer;
 use levels::QMv;
@@ -262,4 +263,69 @@ pub fn is_empty(mv: Mv) -> bool
     ensures { λ r. ⌜ r ≡ isEmpty mv ⌝ }
 {
     mv.y == levels::INVALID_MV
+}
+
+// A cell that is not empty is added.
+pub fn add(v: Mv, s: Sum) -> Sum
+    requires { ⌜ Fair s × (s .n ≤ 4) ⌝ }
+    ensures { λ r. ⌜ (r ≡ added v s) × Fair r × (s .n ≤ r .n) × (r .n ≤ s .n + 1) ⌝ }
+{
+    if is_empty(v) {
+        return s;
+    }
+    Sum {
+        y: s.y + v.y as i64,
+        x: s.x + v.x as i64,
+        n: s.n + 1,
+    }
+}
+
+// The mean of smoothen, empty where no cell was added.
+pub fn smoothed_of(s: Sum) -> Mv
+    requires { ⌜ Fair s × (s .n ≤ 5) ⌝ }
+    ensures { λ r. ⌜ r ≡ smoothedOf s ⌝ }
+{
+    if s.n == 0 {
+        return Mv {
+            y: levels::INVALID_MV,
+            x: 0,
+        };
+    }
+    let y = smooth_average(s.y, s.n);
+    let x = smooth_average(s.x, s.n);
+    Mv { y, x }
+}
+
+// The mean of gap filling.
+pub fn gap_of(s: Sum) -> Mv
+    requires { ⌜ Fair s × (1 ≤ s .n) × (s .n ≤ 4) ⌝ }
+    ensures { λ r. ⌜ r ≡ gapOf s ⌝ }
+{
+    let y = gap_average(s.y, s.n);
+    let x = gap_average(s.x, s.n);
+    Mv { y, x }
+}
+
+// The sum of one cell, which is not empty.
+pub fn one(v: Mv) -> Sum
+    requires { ⌜ isEmpty v ≡ false ⌝ }
+    ensures { λ r. ⌜ (r ≡ added v noSum) × Fair r × (r .n ≤ 1) × (1 ≤ r .n) ⌝ }
+{
+    add(v, Sum { y: 0, x: 0, n: 0 })
+}
+
+// The mean of a cell that is not empty and one more.
+pub fn gap_of_two(v: Mv, a: Mv) -> Mv
+    requires { ⌜ isEmpty v ≡ false ⌝ }
+    ensures { λ r. ⌜ r ≡ gapOf (added a (added v noSum)) ⌝ }
+{
+    gap_of(add(a, one(v)))
+}
+
+// The same with three more.
+pub fn gap_of_four(v: Mv, a: Mv, b: Mv, c: Mv) -> Mv
+    requires { ⌜ isEmpty v ≡ false ⌝ }
+    ensures { λ r. ⌜ r ≡ gapOf (added c (added b (added a (added v noSum)))) ⌝ }
+{
+    gap_of(add(c, add(b, add(a, one(v)))))
 }

@@ -33,6 +33,25 @@ module _ (t : Tile) (k : Sound t) where
   pub small : (0 < t .step) × (t .step ≤ 2) × (0 < t .block) × (t .block ≤ 16)
   small = sides (λ B s. (0 < s) × (s ≤ 2) × (0 < B) × (B ≤ 16)) (omega arith) (omega arith) (omega arith) (omega arith)
 
+  -- a block that is not of 8 is of 16
+  pub block-else : (t .block ≡ 8 → ⊥) → t .block ≡ 16
+  block-else n = go (k .block)
+    where
+      go : (t .block ≡ 8) ⊎ (t .block ≡ 16) → t .block ≡ 16
+      go (inl p) = absurd (n p)
+      go (inr p) = p
+
+  -- the block of a row of the tile begins in the tile
+  pub block-top : (y : ℕ) → t .top ≤ y → (t .top ≤ blockStart t y) × (blockStart t y ≤ y)
+  unfolding blockStart
+  block-top y h =
+      sides (λ B s. t .top % B ≡ 0 → (t .top ≤ y / B * B) × (y / B * B ≤ y)) (λ q. (omega arith, omega arith)) (λ q. (omega arith, omega arith)) (λ q. (omega arith, omega arith))
+      (λ q. (omega arith, omega arith)) (k .topOnBlock)
+
+  pub start-low : (y : ℕ) → blockStart t y ≤ y
+  unfolding blockStart
+  start-low y = sides (λ B s. y / B * B ≤ y) (omega arith) (omega arith) (omega arith) (omega arith)
+
   pub row-low : (y : ℕ) → y % t .side < t .side
   row-low y = mod-lt y (k .side)
 
