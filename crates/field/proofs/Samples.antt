@@ -1,6 +1,6 @@
 -- The loops over a tile's sampled cells, as code runs them: what is left from where a loop is, on the lists as they are, is the whole of it on the lists where it began. Assumes nothing.
-use mathlib.Core.Path.{_≡_, refl, sym, ap, _∙_}
-use mathlib.Core.Bool.{true}
+use mathlib.Core.Path.{_≡_, refl, sym, ap, _∙_, subst}
+use mathlib.Core.Bool.{true, _&&_}
 use mathlib.Core.List.{List}
 use Prim.Native.Nat.{ℕ, _+_, _-_, _*_, _%_, _≤_, _<_, min}
 use native.Mathlib.Nat.{add-mod-right}
@@ -8,6 +8,7 @@ use native.Mathlib.Omega.{arith}
 use borrow.Author.Tests.{leb-true, ltb-true}
 use lib.IntN.{ℤ}
 use lib.ListN.{length}
+use Rattle.intops.proofs.Tests.{and-both}
 use Rattle.loops.specs.Over.{spanBy}
 use Rattle.loops.proofs.Turns.{turnedBy, endedBy}
 use Rattle.store.specs.Store.{Store, withField}
@@ -17,7 +18,10 @@ use Rattle.tile.specs.Owner.{owns}
 use Rattle.tile.specs.Layout.{blockStart}
 use Rattle.tile.specs.Passes.{eachSample, hasLeft, hasRight, hasAbove, hasBelow}
 use Rattle.tile.specs.Sound.{Sound, InTile, Sample, FieldHeld}
+use Rattle.tile.proofs.Owner.{mine-in}
+use Rattle.tile.proofs.Passes.{Sampled, mine-between}
 use Rattle.tile.proofs.Places.{sides, block-some, step-some, block-top}
+use Rattle.field.specs.Code.{Gaps}
 
 -- the field's three lists
 pub record Lists : Type 0 where
@@ -160,3 +164,33 @@ module _ (t : Tile) (k : Sound t) (sx xend y x : ℕ) (h : Sample t sx xend y x)
   below-in q =
       let l : y + t .step < min (blockStart t y + t .block) (t .bottom) = ltb-true (y + t .step) (min (blockStart t y + t .block) (t .bottom)) q in let c = h .cell in
       record { top = omega (arith, c .top); bottom = omega arith; left = c .left; right = c .right }
+
+  -- with step 2
+  module _ (two : t .step ≡ 2) where
+    pub right-two : hasRight t xend x ≡ true → InTile t y (x + 2)
+    right-two q = subst (λ (n : ℕ). InTile t y (x + n)) two (right-in q)
+
+    pub below-two : hasBelow t y ≡ true → InTile t (y + 2) x
+    below-two q = subst (λ (n : ℕ). InTile t (y + n) x) two (below-in q)
+
+    pub both-two : (hasRight t xend x && hasBelow t y) ≡ true → InTile t (y + 2) (x + 2)
+    both-two q =
+        let w = and-both (hasRight t xend x) (hasBelow t y) q in let r = right-two (w .0) in let b = below-two (w .1) in
+        record { top = b .top; bottom = b .bottom; left = r .left; right = r .right }
+
+    -- a cell between sampled ones: its row is not past the superblock row, its column not past the block
+    even-end : y % 2 ≡ 0 → y < t .top + t .side → y + 1 < t .top + t .side
+    even-end e l =
+        sides t k (λ B s. t .top % B ≡ 0 → t .side % B ≡ 0 → y + 1 < t .top + t .side)
+        (λ p q. omega arith) (λ p q. omega arith) (λ p q. omega arith) (λ p q. omega arith) (k .topOnBlock) (k .sideOnBlock)
+
+    pub gaps-of : Gaps t y x
+    gaps-of =
+        let c = h .cell in
+        let m : Sampled t sx x = record { left = h .left; from = h .from; to = rw (← h .end) (h .to); on = h .col } in
+        record {
+          top = c .top;
+          below = even-end (rw two at (h .row)) (omega (arith, c .bottom, k .bottom));
+          here = mine-in t k x (c .left) (c .right);
+          right = mine-between t k sx x m two;
+        }

@@ -204,6 +204,7 @@ sound c r k =
       side = sizes (λ S B s. 0 < S) f r (omega arith) (omega arith) (omega arith) (omega arith) (omega arith) (omega arith);
       block = sizes (λ S B s. (B ≡ 8) ⊎ (B ≡ 16)) f r (inl refl) (inl refl) (inl refl) (inr refl) (inl refl) (inr refl);
       step = sizes (λ S B s. (s ≡ 1) ⊎ (s ≡ 2)) f r (inl refl) (inr refl) (inl refl) (inr refl) (inl refl) (inr refl);
+      few = sizes (λ S B s. B ≤ 8 * s) f r (omega arith) (omega arith) (omega arith) (omega arith) (omega arith) (omega arith);
       edge = edge-low f;
       edgeOnStep = edge-even f r;
       start = sizes (λ S B s. c .colStart % S ≡ 0 → c .colStart % B ≡ 0) f r (λ h. h) (λ h. h) (λ h. omega arith) (λ h. h) (λ h. omega arith) (λ h. omega arith) (k .start);

@@ -2,7 +2,7 @@
 use mathlib.Core.Path.{_≡_}
 use mathlib.Core.Logic.{_⊎_}
 use mathlib.Core.List.{List}
-use Prim.Native.Nat.{ℕ, _+_, _%_, _≤_, _<_, min}
+use Prim.Native.Nat.{ℕ, _+_, _*_, _%_, _≤_, _<_, min}
 use lib.IntN.{ℤ}
 use lib.ListN.{length}
 use Rattle.tile.specs.declared.Tile.{Tile}
@@ -12,6 +12,8 @@ pub record Sound (t : Tile) : Type 0 where
   pub side : 0 < t .side
   pub block : (t .block ≡ 8) ⊎ (t .block ≡ 16)
   pub step : (t .step ≡ 1) ⊎ (t .step ≡ 2)
+  -- at most 8 × 8 sampled cells
+  pub few : t .block ≤ 8 * t .step
   pub edge : t .edge ≤ t .block
   pub edgeOnStep : t .edge % t .step ≡ 0
   pub start : t .left % t .block ≡ 0
