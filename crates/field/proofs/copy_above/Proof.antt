@@ -37,6 +37,9 @@ Inv-loop field-y₀ field-x₀ field-ref₀ t r₀ field-y field-x field-ref r =
 abbrev μ-loop : tie.MeasureT-loop
 μ-loop field-y₀ field-x₀ field-ref₀ t r₀ field-y field-x field-ref r = 3 - r
 
+row : (c : tie.In-loop Inv-loop2 μ-loop2 Inv-loop μ-loop) → c .before .loop .r < 3
+row c = omega (arith, c .loop-test)
+
 col : (c : tie.In-loop2 Inv-loop2 μ-loop2 Inv-loop μ-loop) → c .before .loop2 .x < c .before .before .before .before .before .args .t .right
 col c = omega (arith, c .loop2-test, c .before .loop2 .inv .2)
 
@@ -45,7 +48,7 @@ spots : (c : tie.In-loop2 Inv-loop2 μ-loop2 Inv-loop μ-loop) → let t = c .be
     ((t .side - 3 + r) * t .stride + x < rowCells t) × (r * t .stride + x < t .offset) × (t .offset + rowCells t ≤ 67371008) × (8 ≤ t .side) × (t .side ≤ 32) × (r < 3)
 spots c =
     let s = c .before .before .before .before .before in let t = s .args .t in let k = s .pre .0 in let r = c .before .before .before .loop .r in let x = c .before .loop2 .x in let l = col-low t k x (col c) in
-    (last-in t k r x (c .before .before .loop-test .taken) l, (let m : r * t .stride + x < 3 * t .stride = digits-lt (c .before .before .loop-test .taken) l in omega (arith, s .pre .1)), cells-low t k, side-some t k, k .sideLow, c .before .before .loop-test .taken)
+    (last-in t k r x (row (c .before .before)) l, (let m : r * t .stride + x < 3 * t .stride = digits-lt (row (c .before .before)) l in omega (arith, s .pre .1)), cells-low t k, side-some t k, k .sideLow, row (c .before .before))
 
 loop-holds : tie.Need-loop-holds Inv-loop2 μ-loop2 Inv-loop μ-loop
 loop-holds c = (like-refl _, λ s. refl)
@@ -92,7 +95,7 @@ loop2-again c =
       omega (arith, l .inv .1),
       l .inv .2,
       λ s. turned (copied t r) (t .right) x _ _ _ h
-          (copied-on t (b .pre .0) (b .pre .1) r x (c .before .before .before .before .before .before .before .before .before .before .before .before .before .before .loop-test .taken) (mine-in t (b .pre .0) x (l .inv .1) h) (lists (l .field-y) (l .field-x) (l .field-ref)) _ _ (last-is t (b .pre .0) r x (c .before .before .before .before .before .before .before .before .before .before .before .before .before .before .loop-test .taken)) (k .ensures) s) (l .inv .3 s),
+          (copied-on t (b .pre .0) (b .pre .1) r x (row (c .before .before .before .before .before .before .before .before .before .before .before .before .before .before)) (mine-in t (b .pre .0) x (l .inv .1) h) (lists (l .field-y) (l .field-x) (l .field-ref)) _ _ (last-is t (b .pre .0) r x (row (c .before .before .before .before .before .before .before .before .before .before .before .before .before .before))) (k .ensures) s) (l .inv .3 s),
     )
 
 add-r : tie.Need-add-r Inv-loop2 μ-loop2 Inv-loop μ-loop
@@ -105,7 +108,7 @@ loop-again : tie.Need-loop-again Inv-loop2 μ-loop2 Inv-loop μ-loop
 loop-again c =
     let l = c .before .before .before .loop in let m = c .before .loop2 in let t = c .before .before .before .before .before .args .t in (
       like-trans (m .inv .0) (l .inv .0),
-      λ s. turned (copiedRow t) 3 (l .r) _ _ _ (c .before .before .loop-test .taken) (ended (copied t (l .r)) (t .right) (m .x) _ _ (omega (arith, c .loop2-test, m .inv .2)) (m .inv .3 s)) (l .inv .1 s),
+      λ s. turned (copiedRow t) 3 (l .r) _ _ _ (row (c .before .before)) (ended (copied t (l .r)) (t .right) (m .x) _ _ (omega (arith, c .loop2-test, m .inv .2)) (m .inv .3 s)) (l .inv .1 s),
     )
 
 same-length : tie.Need-same-length Inv-loop2 μ-loop2 Inv-loop μ-loop
@@ -119,7 +122,7 @@ same-length-3 c = c .before .loop .inv .0 .ref
 
 returns : tie.Need-returns Inv-loop2 μ-loop2 Inv-loop μ-loop
 unfolding copyAbove span
-returns c = λ s. ended (copiedRow (c .before .before .before .args .t)) 3 (c .before .loop .r) _ _ (c .loop-test .left) (c .before .loop .inv .1 s)
+returns c = λ s. ended (copiedRow (c .before .before .before .args .t)) 3 (c .before .loop .r) _ _ (omega (arith, c .loop-test .left)) (c .before .loop .inv .1 s)
 
 pub copy-above-spec : {M : Type 1} → statement M
 copy-above-spec =
