@@ -1,7 +1,7 @@
 // The field's passes of a load, one function for each of refmvs.rs's.
 ghost use mathlib.Core.Path.{_≡_};
 ghost use mathlib.Core.Bool.{Bool, true, false};
-ghost use Prim.Native.Nat.{ℕ, _+_, _-_, _*_, _/_, _≤_, _<_, min};
+ghost use Prim.Native.Nat.{ℕ, _+_, _-_, _*_, _/_, _%_, _≤_, _<_, min};
 ghost use lib.IntN.{ℤ, pos};
 ghost use lib.ListN.{length, getD};
 ghost use Rattle.levels.specs.declared.Mv.{Mv};
@@ -466,4 +466,82 @@ pub fn fill_gap_proj(
         }
         sx += t.block;
     }
+}
+
+// A cell, where there is one, is added to a sum.
+fn add_if(there: bool, field_y: &[i32], field_x: &[i32], t: Tile, y: usize, x: usize, s: Sum) -> Sum
+    requires { ⌜ Sound t × (there ≡ true → InTile t y x) × (t .offset + rowCells t ≤ length (now «field_y»)) × (t .offset + rowCells t ≤ length (now «field_x»)) × Fair s × (s .n ≤ 4) ⌝ }
+    ensures { λ r. ⌜ (r ≡ addedIf there (cellIn (now («field_y» .entry)) (now («field_x» .entry)) (fieldAt t y x)) s) × Fair r × (r .n ≤ s .n + 1) ⌝ }
+{
+    if !there {
+        return s;
+    }
+    let at = field_at(t, y, x);
+    mv::add(cell_at(field_y, field_x, at), s)
+}
+
+// A cell and its neighbours of the block.
+fn around_at(
+    field_y: &[i32],
+    field_x: &[i32],
+    t: Tile,
+    sx: usize,
+    xend: usize,
+    y: usize,
+    x: usize,
+) -> Sum
+    requires { ⌜ Sound t × Sample t sx xend y x × (t .offset + rowCells t ≤ length (now «field_y»)) × (t .offset + rowCells t ≤ length (now «field_x»)) ⌝ }
+    ensures { λ r. ⌜ (r ≡ around t (cellIn (now («field_y» .entry)) (now («field_x» .entry))) sx xend y x) × Fair r × (r .n ≤ 5) ⌝ }
+{
+    let zero = Sum { y: 0, x: 0, n: 0 };
+    let s1 = add_if(true, field_y, field_x, t, y, x, zero);
+    let s2 = add_if(
+        sx + t.step <= x,
+        field_y,
+        field_x,
+        t,
+        y,
+        less(x, t.step),
+        s1,
+    );
+    let s3 = add_if(x + t.step < xend, field_y, field_x, t, y, x + t.step, s2);
+    let s4 = add_if(has_above(t, y), field_y, field_x, t, less(y, t.step), x, s3);
+    add_if(has_below(t, y), field_y, field_x, t, y + t.step, x, s4)
+}
+
+// A mean and the distance go to a cell.
+fn put_mean(
+    field_y: &mut [i32],
+    field_x: &mut [i32],
+    field_ref: &mut [u8],
+    line_y: &[i32; 64],
+    line_x: &[i32; 64],
+    t: Tile,
+    delta: i8,
+    y: usize,
+    x: usize,
+    at: usize,
+)
+    requires { ⌜ Sound t × InTile t y x × FieldHeld t (now «field_y») (now «field_x») (now «field_ref») × (at < 64) ⌝ }
+    ensures { λ _. ⌜ ((s : Store) → withField s (now («field_y» .exit)) (now («field_x» .exit)) (now («field_ref» .exit))
+        ≡ wr (wr (withField s (now («field_y» .entry)) (now («field_x» .entry)) (now («field_ref» .entry))) fieldMvs (fieldAt t y x) (cellIn (now («line_y» .entry)) (now («line_x» .entry)) at)) fieldRefs (fieldAt t y x) (byteCell (asByte delta))) ⌝ }
+{
+    let y1 = line_y[at];
+    let x1 = line_x[at];
+    put(
+        field_y,
+        field_x,
+        field_ref,
+        field_at(t, y, x),
+        Mv { y: y1, x: x1 },
+        as_byte(delta),
+    );
+}
+
+// How many sampled rows or columns there are from a up to b.
+fn count(t: Tile, a: usize, b: usize) -> usize
+    requires { ⌜ Sound t × (a ≤ b) × (b ≤ 16384) ⌝ }
+    ensures { λ r. ⌜ r ≡ (b - a + (t .step - 1)) / t .step ⌝ }
+{
+    if t.step == 1 { b - a } else { (b - a + 1) / 2 }
 }

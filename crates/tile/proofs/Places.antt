@@ -41,6 +41,13 @@ module _ (t : Tile) (k : Sound t) where
       go (inl p) = absurd (n p)
       go (inr p) = p
 
+  pub step-else : (t .step ≡ 1 → ⊥) → t .step ≡ 2
+  step-else n = go (k .step)
+    where
+      go : (t .step ≡ 1) ⊎ (t .step ≡ 2) → t .step ≡ 2
+      go (inl p) = absurd (n p)
+      go (inr p) = p
+
   -- the block of a row of the tile begins in the tile
   pub block-top : (y : ℕ) → t .top ≤ y → (t .top ≤ blockStart t y) × (blockStart t y ≤ y)
   unfolding blockStart
