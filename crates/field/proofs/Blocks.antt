@@ -1,22 +1,22 @@
 -- Smoothing block by block: the sampled cells of a block by row and column, and the loops as code runs them. Assumes nothing.
-use mathlib.Core.Path.{_≡_, refl, sym, ap, _∙_, subst}
-use mathlib.Core.Bool.{Bool, true, false}
+use mathlib.Core.Path.{_≡_, sym, _∙_}
 use mathlib.Core.List.{List}
 use Prim.Native.Nat.{ℕ, _+_, _-_, _*_, _/_, _%_, _≤_, _<_, min}
 use native.Mathlib.Omega.{arith}
 use lib.IntN.{ℤ, pos}
-use lib.ListN.{length, getD, set}
+use lib.ListN.{length, length-set, set}
 use lib.Seq.{getD-set-same, getD-set-other}
 use Rattle.levels.specs.declared.Mv.{Mv}
-use Rattle.loops.specs.Over.{over, span, spanBy}
+use Rattle.loops.proofs.Counting.{is-or}
+use Rattle.loops.specs.Over.{span, spanBy}
 use Rattle.loops.proofs.Same.{counted, over-same, turn-below}
 use Rattle.mv.specs.Sums.{smoothedOf}
-use Rattle.store.specs.Store.{Store, Kind, fieldMvs, fieldRefs, vec, byteCell, wr}
-use Rattle.store.specs.Program.{run, readOwn}
+use Rattle.store.specs.Store.{Store, Kind, fieldMvs, fieldRefs, byteCell, wr}
+use Rattle.store.specs.Program.{run}
 use Rattle.tile.specs.declared.Tile.{Tile}
 use Rattle.tile.specs.Layout.{fieldAt}
 use Rattle.tile.specs.Owner.{owns}
-use Rattle.tile.specs.Sound.{Sound, InTile, Sample}
+use Rattle.tile.specs.Sound.{Sound, Sample}
 use Rattle.tile.proofs.Owner.{own-cell, mine-in}
 use Rattle.tile.proofs.Places.{sides, step-some}
 use Rattle.field.specs.Field.{asByte, around, smoothCell, smoothBlock}
@@ -29,6 +29,38 @@ line-here ly lx p v h l = rw (getD-set-same ly p (v .y) (pos 0) h, getD-set-same
 
 pub line-else : (ly lx : List ℤ) (p q : ℕ) (v : Mv) → (q ≡ p → ⊥) → cellIn (set ly p (v .y)) (set lx p (v .x)) q ≡ cellIn ly lx q
 line-else ly lx p q v n = rw (getD-set-other ly p q (v .y) (pos 0) n, getD-set-other lx p q (v .x) (pos 0) n)
+
+-- two lines of 64 hold the values of the rows before a, and of row a before column b
+pub record Lined (f : ℕ → ℕ → Mv) (cols a b : ℕ) (ly lx : List ℤ) : Type 0 where
+  pub y : length ly ≡ 64
+  pub x : length lx ≡ 64
+  pub rows : (i j : ℕ) → i < a → j < cols → cellIn ly lx (i * 8 + j) ≡ f i j
+  pub row : (j : ℕ) → j < b → cellIn ly lx (a * 8 + j) ≡ f a j
+
+module _ (f : ℕ → ℕ → Mv) (cols : ℕ) (few : cols ≤ 8) where
+  pub line-start : (ly lx : List ℤ) → length ly ≡ 64 → length lx ≡ 64 → Lined f cols 0 0 ly lx
+  line-start ly lx p q = record { y = p; x = q; rows = λ i j l m. absurd (omega arith); row = λ j l. absurd (omega arith) }
+
+  pub line-next : (a b : ℕ) (ly lx : List ℤ) (v : Mv) → a < 8 → b < cols → v ≡ f a b → Lined f cols a b ly lx → Lined f cols a (b + 1) (set ly (a * 8 + b) (v .y)) (set lx (a * 8 + b) (v .x))
+  line-next a b ly lx v p q e h =
+      record {
+        y = length-set ly (a * 8 + b) (v .y) ∙ h .y;
+        x = length-set lx (a * 8 + b) (v .x) ∙ h .x;
+        rows = λ i j l m. line-else ly lx (a * 8 + b) (i * 8 + j) v (λ z. omega arith) ∙ h .rows i j l m;
+        row = λ j l.
+            is-or j b
+            (λ z. rw z (line-here ly lx (a * 8 + b) v (omega (arith, h .y)) (omega (arith, h .x)) ∙ e))
+            (λ z. line-else ly lx (a * 8 + b) (a * 8 + j) v (λ w. z (omega arith)) ∙ h .row j (omega arith));
+      }
+
+  pub line-row : (a b : ℕ) (ly lx : List ℤ) → cols ≤ b → Lined f cols a b ly lx → Lined f cols (a + 1) 0 ly lx
+  line-row a b ly lx p h =
+      record {
+        y = h .y;
+        x = h .x;
+        rows = λ i j l m. is-or i a (λ z. rw z (h .row j (omega arith))) (λ z. h .rows i j (omega arith) m);
+        row = λ j l. absurd (omega arith);
+      }
 
 -- a block's loops, turns counted
 block-by : (t : Tile) (delta : ℤ) (was : Kind → ℕ → Mv) (sx xend sy rows cols : ℕ) → rows ≡ (min (t .bottom) (sy + t .block) - sy + (t .step - 1)) / t .step → cols ≡ (xend - sx + (t .step - 1)) / t .step → (s : Store)

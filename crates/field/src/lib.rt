@@ -509,6 +509,43 @@ fn around_at(
     add_if(has_below(t, y), field_y, field_x, t, y + t.step, x, s4)
 }
 
+// The means of a block's sampled cells, cell (a, b) at 8 a + b.
+fn block_means(
+    field_y: &[i32],
+    field_x: &[i32],
+    line_y: &mut [i32; 64],
+    line_x: &mut [i32; 64],
+    t: Tile,
+    sx: usize,
+    xend: usize,
+    sy: usize,
+    rows: usize,
+    cols: usize,
+)
+    requires { ⌜ Sound t × InBlock t sx xend sy rows cols × (t .offset + rowCells t ≤ length (now «field_y»)) × (t .offset + rowCells t ≤ length (now «field_x»)) × (length (now «line_y») ≡ 64) × (length (now «line_x») ≡ 64) ⌝ }
+    ensures { λ _. ⌜ ((a b : ℕ) → a < rows → b < cols → cellIn (now («line_y» .exit)) (now («line_x» .exit)) (a * 8 + b)
+        ≡ smoothedOf (around t (cellIn (now («field_y» .entry)) (now («field_x» .entry))) sx xend (sy + a * t .step) (sx + b * t .step))) ⌝ }
+{
+    for a in 0..rows {
+        for b in 0..cols {
+            let m = mv::smoothed_of(around_at(
+                field_y,
+                field_x,
+                t,
+                sx,
+                xend,
+                sy + a * t.step,
+                sx + b * t.step,
+            ));
+            let at = a * 8 + b;
+            let y = m.y;
+            let x = m.x;
+            line_y[at] = y;
+            line_x[at] = x;
+        }
+    }
+}
+
 // A mean and the distance go to a cell.
 fn put_mean(
     field_y: &mut [i32],
