@@ -1,5 +1,5 @@
 -- Smoothing block by block: the sampled cells of a block by row and column, and the loops as code runs them. Assumes nothing.
-use mathlib.Core.Path.{_≡_, sym, _∙_}
+use mathlib.Core.Path.{_≡_, refl, sym, _∙_}
 use mathlib.Core.List.{List}
 use Prim.Native.Nat.{ℕ, _+_, _-_, _*_, _/_, _%_, _≤_, _<_, min}
 use native.Mathlib.Omega.{arith}
@@ -9,9 +9,10 @@ use lib.Seq.{getD-set-same, getD-set-other}
 use Rattle.levels.specs.declared.Mv.{Mv}
 use Rattle.loops.proofs.Counting.{is-or}
 use Rattle.loops.specs.Over.{span, spanBy}
+use Rattle.loops.proofs.Turns.{turned, ended}
 use Rattle.loops.proofs.Same.{counted, over-same, turn-below}
 use Rattle.mv.specs.Sums.{smoothedOf}
-use Rattle.store.specs.Store.{Store, Kind, fieldMvs, fieldRefs, byteCell, wr}
+use Rattle.store.specs.Store.{Store, Kind, fieldMvs}
 use Rattle.store.specs.Program.{run}
 use Rattle.tile.specs.declared.Tile.{Tile}
 use Rattle.tile.specs.Layout.{fieldAt}
@@ -21,7 +22,8 @@ use Rattle.tile.proofs.Owner.{own-cell, mine-in}
 use Rattle.tile.proofs.Places.{sides, step-some}
 use Rattle.field.specs.Field.{asByte, around, smoothCell, smoothBlock}
 use Rattle.field.specs.Code.{cellIn, InBlock}
-use Rattle.field.proofs.Samples.{Lists, within}
+use Rattle.field.proofs.Samples.{Lists, within, Like, like-refl, like-trans}
+use Rattle.field.proofs.Ways.{Set}
 
 -- a store to two lines, here and elsewhere
 pub line-here : (ly lx : List ℤ) (p : ℕ) (v : Mv) → p < length ly → p < length lx → cellIn (set ly p (v .y)) (set lx p (v .x)) p ≡ v
@@ -99,22 +101,60 @@ module _ (t : Tile) (k : Sound t) (sx xend sy rows cols : ℕ) (h : InBlock t sx
         col = sides t k (λ B s. sx % B ≡ 0 → (sx + b * s) % s ≡ 0) (λ q. omega arith) (λ q. omega arith) (λ q. omega arith) (λ q. omega arith) (h .onCol);
       }
 
-  module _ (delta : ℤ) (was : Kind → ℕ → Mv) where
-    -- a cell, a row
-    abbrev pub meanPut : ℕ → ℕ → Store → Store
-    meanPut a b s = run (owns t) (smoothCell t delta was sx xend (sy + a * t .step) (sx + b * t .step)) s
+-- a cell's turn, a row's
+module _ (t : Tile) (delta : ℤ) (sx xend sy cols : ℕ) (was : Kind → ℕ → Mv) where
+  abbrev pub meanPut : ℕ → ℕ → Store → Store
+  meanPut a b s = run (owns t) (smoothCell t delta was sx xend (sy + a * t .step) (sx + b * t .step)) s
 
-    abbrev pub rowPut : ℕ → Store → Store
-    rowPut a s = span (meanPut a) 0 cols s
+  abbrev pub rowPut : ℕ → Store → Store
+  rowPut a s = span (meanPut a) 0 cols s
 
-    pub block-is : (s : Store) → span rowPut 0 rows s ≡ run (owns t) (smoothBlock t delta sx xend sy was) s
-    block-is s = sym (block-by t delta was sx xend sy rows cols (h .rowCount) (h .colCount) s)
+-- the loops that put the means: the lines hold the means of the cells as they were
+module _ (t : Tile) (delta : ℤ) (sx xend sy rows cols : ℕ) (ly lx : List ℤ) where
+  abbrev pub Means : (Kind → ℕ → Mv) → Type 0
+  Means was = (a b : ℕ) → a < rows → b < cols → cellIn ly lx (a * 8 + b) ≡ smoothedOf (around t (was fieldMvs) sx xend (sy + a * t .step) (sx + b * t .step))
 
-    pub mean-on : (a b : ℕ) → a < rows → b < cols → (l n : Lists) (v : Mv) → v ≡ smoothedOf (around t (was fieldMvs) sx xend (sy + a * t .step) (sx + b * t .step))
-        → ((s : Store) → within s n ≡ wr (wr (within s l) fieldMvs (fieldAt t (sy + a * t .step) (sx + b * t .step)) v) fieldRefs (fieldAt t (sy + a * t .step) (sx + b * t .step)) (byteCell (asByte delta)))
-        → (s : Store) → within s n ≡ meanPut a b (within s l)
+  pub record AtCol (a b : ℕ) (l m : Lists) : Type 0 where
+    pub like : Like l m
+    pub left : (was : Kind → ℕ → Mv) → Means was → (s : Store) → span (meanPut t delta sx xend sy cols was a) b cols (within s l) ≡ rowPut t delta sx xend sy cols was a (within s m)
+
+  pub record AtRow (a : ℕ) (l m : Lists) : Type 0 where
+    pub like : Like l m
+    pub left : (was : Kind → ℕ → Mv) → Means was → (s : Store) → span (rowPut t delta sx xend sy cols was) a rows (within s l) ≡ span (rowPut t delta sx xend sy cols was) 0 rows (within s m)
+
+  pub row-holds : (l : Lists) → AtRow 0 l l
+  row-holds l = record { like = like-refl l; left = λ was q s. refl }
+
+  pub col-holds : (a : ℕ) (l : Lists) → AtCol a 0 l l
+  col-holds a l = record { like = like-refl l; left = λ was q s. refl }
+
+  module _ (k : Sound t) (h : InBlock t sx xend sy rows cols) where
+    mean-on : (was : Kind → ℕ → Mv) (a b : ℕ) → a < rows → b < cols → (l n : Lists) (v : Mv) → v ≡ smoothedOf (around t (was fieldMvs) sx xend (sy + a * t .step) (sx + b * t .step))
+        → Set n l (fieldAt t (sy + a * t .step) (sx + b * t .step)) v (asByte delta) → (s : Store) → within s n ≡ meanPut t delta sx xend sy cols was a b (within s l)
     unfolding smoothCell
-    mean-on a b p q l n v e w s =
-        let c = block-sample a b p q .cell in
+    mean-on was a b p q l n v e w s =
+        let c = block-sample t k sx xend sy rows cols h a b p q .cell in
         let o = own-cell t k (sy + a * t .step) (sx + b * t .step) (mine-in t k (sx + b * t .step) (c .left) (c .right)) in
         w s ∙ rw e (rw (o .0, o .1))
+
+    pub col-again : (a b : ℕ) (l m n : Lists) → a < rows → b < cols → AtCol a b l m → Like n l
+        → Set n l (fieldAt t (sy + a * t .step) (sx + b * t .step)) (cellIn ly lx (a * 8 + b)) (asByte delta) → AtCol a (b + 1) n m
+    col-again a b l m n p q c e w =
+        record {
+          like = like-trans e (c .like);
+          left = λ was g s.
+              turned (meanPut t delta sx xend sy cols was a) cols b (within s l) (within s n) _ q (mean-on was a b p q l n (cellIn ly lx (a * 8 + b)) (g a b p q) w s) (c .left was g s);
+        }
+
+    pub row-again : (a b : ℕ) (l m n : Lists) → a < rows → cols ≤ b → AtRow a l m → AtCol a b n l → AtRow (a + 1) n m
+    row-again a b l m n p q r c =
+        record {
+          like = like-trans (c .like) (r .like);
+          left = λ was g s.
+              turned (rowPut t delta sx xend sy cols was) rows a (within s l) (within s n) _ p
+              (ended (meanPut t delta sx xend sy cols was a) cols b (within s n) _ q (c .left was g s)) (r .left was g s);
+        }
+
+    pub rows-done : (a : ℕ) (l m : Lists) → rows ≤ a → AtRow a l m → (was : Kind → ℕ → Mv) → Means was → (s : Store) → within s l ≡ run (owns t) (smoothBlock t delta sx xend sy was) (within s m)
+    rows-done a l m p r was g s =
+        ended (rowPut t delta sx xend sy cols was) rows a (within s l) _ p (r .left was g s) ∙ sym (block-by t delta was sx xend sy rows cols (h .rowCount) (h .colCount) (within s m))

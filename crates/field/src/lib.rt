@@ -575,6 +575,44 @@ fn put_mean(
     );
 }
 
+// The means go to the block's sampled cells.
+fn put_means(
+    field_y: &mut [i32],
+    field_x: &mut [i32],
+    field_ref: &mut [u8],
+    line_y: &[i32; 64],
+    line_x: &[i32; 64],
+    t: Tile,
+    delta: i8,
+    sx: usize,
+    xend: usize,
+    sy: usize,
+    rows: usize,
+    cols: usize,
+)
+    requires { ⌜ Sound t × InBlock t sx xend sy rows cols × FieldHeld t (now «field_y») (now «field_x») (now «field_ref») ⌝ }
+    ensures { λ _. ⌜ ((was : Kind → ℕ → Mv) → ((a b : ℕ) → a < rows → b < cols → cellIn (now («line_y» .entry)) (now («line_x» .entry)) (a * 8 + b)
+        ≡ smoothedOf (around t (was fieldMvs) sx xend (sy + a * t .step) (sx + b * t .step))) → (s : Store) → withField s (now («field_y» .exit)) (now («field_x» .exit)) (now («field_ref» .exit))
+        ≡ run (owns t) (smoothBlock t delta sx xend sy was) (withField s (now («field_y» .entry)) (now («field_x» .entry)) (now («field_ref» .entry)))) ⌝ }
+{
+    for a in 0..rows {
+        for b in 0..cols {
+            put_mean(
+                field_y,
+                field_x,
+                field_ref,
+                line_y,
+                line_x,
+                t,
+                delta,
+                sy + a * t.step,
+                sx + b * t.step,
+                a * 8 + b,
+            );
+        }
+    }
+}
+
 // How many sampled rows or columns there are from a up to b.
 fn count(t: Tile, a: usize, b: usize) -> usize
     requires { ⌜ Sound t × (a ≤ b) × (b ≤ 16384) ⌝ }
