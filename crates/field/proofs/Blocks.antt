@@ -1,5 +1,5 @@
 -- Smoothing block by block: the sampled cells of a block by row and column, and the loops as code runs them. Assumes nothing.
-use mathlib.Core.Path.{_≡_, refl, sym, _∙_}
+use mathlib.Core.Path.{_≡_, refl, sym, ap, _∙_}
 use mathlib.Core.List.{List}
 use Prim.Native.Nat.{ℕ, _+_, _-_, _*_, _/_, _%_, _≤_, _<_, min}
 use native.Mathlib.Omega.{arith}
@@ -13,15 +13,17 @@ use Rattle.loops.proofs.Turns.{turned, ended}
 use Rattle.loops.proofs.Same.{counted, over-same, turn-below}
 use Rattle.mv.specs.Sums.{smoothedOf}
 use Rattle.store.specs.Store.{Store, Kind, fieldMvs}
-use Rattle.store.specs.Program.{run}
+use Rattle.store.specs.Program.{run, snapshot, readOwn}
 use Rattle.tile.specs.declared.Tile.{Tile}
 use Rattle.tile.specs.Layout.{fieldAt}
 use Rattle.tile.specs.Owner.{owns}
 use Rattle.tile.specs.Sound.{Sound, Sample}
 use Rattle.tile.proofs.Owner.{own-cell, mine-in}
+use Rattle.tile.proofs.Passes.{Sampled}
 use Rattle.tile.proofs.Places.{sides, step-some}
 use Rattle.field.specs.Field.{asByte, around, smoothCell, smoothBlock}
 use Rattle.field.specs.Code.{cellIn, InBlock}
+use Rattle.field.proofs.Owned.{around-same}
 use Rattle.field.proofs.Samples.{Lists, within, Like, like-refl, like-trans}
 use Rattle.field.proofs.Ways.{Set}
 
@@ -158,3 +160,17 @@ module _ (t : Tile) (delta : ℤ) (sx xend sy rows cols : ℕ) (ly lx : List ℤ
     pub rows-done : (a : ℕ) (l m : Lists) → rows ≤ a → AtRow a l m → (was : Kind → ℕ → Mv) → Means was → (s : Store) → within s l ≡ run (owns t) (smoothBlock t delta sx xend sy was) (within s m)
     rows-done a l m p r was g s =
         ended (rowPut t delta sx xend sy cols was) rows a (within s l) _ p (r .left was g s) ∙ sym (block-by t delta was sx xend sy rows cols (h .rowCount) (h .colCount) (within s m))
+
+    -- the means are those of the cells as the owner reads them
+    pub block-on : (l n : Lists) → ((a b : ℕ) → a < rows → b < cols → cellIn ly lx (a * 8 + b) ≡ smoothedOf (around t (cellIn (l .y) (l .x)) sx xend (sy + a * t .step) (sx + b * t .step)))
+        → ((was : Kind → ℕ → Mv) → Means was → (s : Store) → within s n ≡ run (owns t) (smoothBlock t delta sx xend sy was) (within s l))
+        → (s : Store) → within s n ≡ run (owns t) (snapshot (smoothBlock t delta sx xend sy)) (within s l)
+    block-on l n m p s =
+        p (readOwn (owns t) (within s l)) (λ a b u v. m a b u v ∙ ap smoothedOf (sym (reads a b u v))) s
+      where
+        reads : (a b : ℕ) → a < rows → b < cols
+            → around t (readOwn (owns t) (within s l) fieldMvs) sx xend (sy + a * t .step) (sx + b * t .step) ≡ around t (cellIn (l .y) (l .x)) sx xend (sy + a * t .step) (sx + b * t .step)
+        reads a b u v =
+            let c = block-sample t k sx xend sy rows cols h a b u v in
+            let q : Sampled t sx (sx + b * t .step) = record { left = c .left; from = c .from; to = rw (h .end) at (c .to); on = c .col } in
+            rw (h .end) (around-same t k (within s l) sx (sy + a * t .step) (sx + b * t .step) q)

@@ -91,7 +91,7 @@ module _ (t : Tile) (k : Sound t) where
   read-same : (s : Store) (y x : ℕ) → ownBlock t (x / t .block + 1) ≡ true → readOwn (owns t) s fieldMvs (fieldAt t y x) ≡ rd s fieldMvs (fieldAt t y x)
   read-same s y x h = rw (own-cell t k y x h .0)
 
-  around-same : (s : Store) (sx y x : ℕ) → Sampled t sx x
+  pub around-same : (s : Store) (sx y x : ℕ) → Sampled t sx x
       → around t (readOwn (owns t) s fieldMvs) sx (min (t .right) (sx + t .block)) y x ≡ around t (rd s fieldMvs) sx (min (t .right) (sx + t .block)) y x
   unfolding around
   around-same s sx y x h =

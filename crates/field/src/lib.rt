@@ -620,3 +620,51 @@ fn count(t: Tile, a: usize, b: usize) -> usize
 {
     if t.step == 1 { b - a } else { (b - a + 1) / 2 }
 }
+
+// All means first, from the originals.
+fn smooth_block(
+    field_y: &mut [i32],
+    field_x: &mut [i32],
+    field_ref: &mut [u8],
+    t: Tile,
+    delta: i8,
+    sx: usize,
+    xend: usize,
+    sy: usize,
+)
+    requires { ⌜ Sound t × (t .left ≤ sx) × (sx < t .right) × (sx % t .block ≡ 0) × (xend ≡ min (t .right) (sx + t .block)) × FieldHeld t (now «field_y») (now «field_x») (now «field_ref») ⌝ }
+    requires { ⌜ (t .top ≤ sy) × (sy < t .bottom) × (sy % t .block ≡ 0) ⌝ }
+    ensures { λ _. ⌜ ((s : Store) → withField s (now («field_y» .exit)) (now («field_x» .exit)) (now («field_ref» .exit))
+        ≡ run (owns t) (snapshot (smoothBlock t delta sx xend sy)) (withField s (now («field_y» .entry)) (now («field_x» .entry)) (now («field_ref» .entry)))) ⌝ }
+{
+    let rows = count(t, sy, least(t.bottom, sy + t.block));
+    let cols = count(t, sx, xend);
+    let mut line_y = [0i32; 64];
+    let mut line_x = [0i32; 64];
+    block_means(
+        field_y,
+        field_x,
+        &mut line_y,
+        &mut line_x,
+        t,
+        sx,
+        xend,
+        sy,
+        rows,
+        cols,
+    );
+    put_means(
+        field_y,
+        field_x,
+        field_ref,
+        &line_y,
+        &line_x,
+        t,
+        delta,
+        sx,
+        xend,
+        sy,
+        rows,
+        cols,
+    );
+}
