@@ -2,6 +2,7 @@
 use mathlib.Core.Path.{_≡_, refl, sym, ap, _∙_}
 use mathlib.Core.List.{List}
 use Prim.Native.Nat.{ℕ, _+_, _-_, _*_, _/_, _%_, _≤_, _<_, min}
+use native.Mathlib.Nat.{add-mod-right}
 use native.Mathlib.Omega.{arith}
 use lib.IntN.{ℤ, pos}
 use lib.ListN.{length, length-set, set}
@@ -9,7 +10,7 @@ use lib.Seq.{getD-set-same, getD-set-other}
 use Rattle.levels.specs.declared.Mv.{Mv}
 use Rattle.loops.proofs.Counting.{is-or}
 use Rattle.loops.specs.Over.{span, spanBy}
-use Rattle.loops.proofs.Turns.{turned, ended}
+use Rattle.loops.proofs.Turns.{turned, ended, turnedBy, endedBy}
 use Rattle.loops.proofs.Same.{counted, over-same, turn-below}
 use Rattle.mv.specs.Sums.{smoothedOf}
 use Rattle.store.specs.Store.{Store, Kind, fieldMvs}
@@ -20,8 +21,8 @@ use Rattle.tile.specs.Owner.{owns}
 use Rattle.tile.specs.Sound.{Sound, Sample}
 use Rattle.tile.proofs.Owner.{own-cell, mine-in}
 use Rattle.tile.proofs.Passes.{Sampled}
-use Rattle.tile.proofs.Places.{sides, step-some}
-use Rattle.field.specs.Field.{asByte, around, smoothCell, smoothBlock}
+use Rattle.tile.proofs.Places.{sides, block-some, step-some}
+use Rattle.field.specs.Field.{asByte, around, smoothCell, smoothBlock, smoothen}
 use Rattle.field.specs.Code.{cellIn, InBlock}
 use Rattle.field.proofs.Owned.{around-same}
 use Rattle.field.proofs.Samples.{Lists, within, Like, like-refl, like-trans}
@@ -174,3 +175,56 @@ module _ (t : Tile) (delta : ℤ) (sx xend sy rows cols : ℕ) (ly lx : List ℤ
             let c = block-sample t k sx xend sy rows cols h a b u v in
             let q : Sampled t sx (sx + b * t .step) = record { left = c .left; from = c .from; to = rw (h .end) at (c .to); on = c .col } in
             rw (h .end) (around-same t k (within s l) sx (sy + a * t .step) (sx + b * t .step) q)
+
+-- the loops over the blocks: a block, a column of them
+module _ (t : Tile) (delta : ℤ) where
+  abbrev pub squareTurn : ℕ → ℕ → ℕ → Store → Store
+  squareTurn sx xend sy s = run (owns t) (snapshot (smoothBlock t delta sx xend sy)) s
+
+  abbrev pub columnTurn : ℕ → Store → Store
+  columnTurn sx s = spanBy (t .block) (squareTurn sx (min (t .right) (sx + t .block))) (t .top) (t .bottom) s
+
+  pub record AtSquare (sx xend sy : ℕ) (l m : Lists) : Type 0 where
+    pub like : Like l m
+    pub from : t .top ≤ sy
+    pub on : sy % t .block ≡ 0
+    pub left : (s : Store) → spanBy (t .block) (squareTurn sx xend) sy (t .bottom) (within s l) ≡ spanBy (t .block) (squareTurn sx xend) (t .top) (t .bottom) (within s m)
+
+  pub record AtColumn (sx : ℕ) (l m : Lists) : Type 0 where
+    pub like : Like l m
+    pub from : t .left ≤ sx
+    pub on : sx % t .block ≡ 0
+    pub left : (s : Store) → spanBy (t .block) columnTurn sx (t .right) (within s l) ≡ spanBy (t .block) columnTurn (t .left) (t .right) (within s m)
+
+  module _ (k : Sound t) where
+    pub column-holds : (l : Lists) → AtColumn (t .left) l l
+    column-holds l = record { like = like-refl l; from = omega arith; on = k .start; left = λ s. refl }
+
+    pub square-holds : (sx xend : ℕ) (l : Lists) → AtSquare sx xend (t .top) l l
+    square-holds sx xend l = record { like = like-refl l; from = omega arith; on = k .topOnBlock; left = λ s. refl }
+
+    pub square-again : (sx xend sy : ℕ) (l m n : Lists) → sy < t .bottom → AtSquare sx xend sy l m → Like n l
+        → ((s : Store) → within s n ≡ squareTurn sx xend sy (within s l)) → AtSquare sx xend (sy + t .block) n m
+    square-again sx xend sy l m n h a p e =
+        record {
+          like = like-trans p (a .like);
+          from = omega (arith, a .from);
+          on = add-mod-right sy (t .block) ∙ a .on;
+          left = λ s. turnedBy (squareTurn sx xend) (t .block) (t .bottom) sy (within s l) (within s n) _ (block-some t k) h (e s) (a .left s);
+        }
+
+    pub column-again : (sx xend sy : ℕ) (l m n : Lists) → sx < t .right → xend ≡ min (t .right) (sx + t .block) → t .bottom ≤ sy → AtColumn sx l m → AtSquare sx xend sy n l
+        → AtColumn (sx + t .block) n m
+    column-again sx xend sy l m n h e g a b =
+        record {
+          like = like-trans (b .like) (a .like);
+          from = omega (arith, a .from);
+          on = add-mod-right sx (t .block) ∙ a .on;
+          left = λ s.
+              turnedBy columnTurn (t .block) (t .right) sx (within s l) (within s n) _ (block-some t k) h
+              (endedBy (squareTurn sx (min (t .right) (sx + t .block))) (t .block) (t .bottom) sy (within s n) _ (block-some t k) g (rw e at (b .left s))) (a .left s);
+        }
+
+    pub smoothen-done : (sx : ℕ) (l m : Lists) → t .right ≤ sx → AtColumn sx l m → (s : Store) → within s l ≡ run (owns t) (smoothen t delta) (within s m)
+    unfolding spanBy smoothen
+    smoothen-done sx l m h a s = endedBy columnTurn (t .block) (t .right) sx (within s l) _ (block-some t k) h (a .left s)

@@ -668,3 +668,21 @@ fn smooth_block(
         cols,
     );
 }
+
+// Block by block, each from its own originals.
+pub fn smoothen(field_y: &mut [i32], field_x: &mut [i32], field_ref: &mut [u8], t: Tile, delta: i8)
+    requires { ⌜ Sound t × FieldHeld t (now «field_y») (now «field_x») (now «field_ref») ⌝ }
+    ensures { λ _. ⌜ ((s : Store) → withField s (now («field_y» .exit)) (now («field_x» .exit)) (now («field_ref» .exit))
+        ≡ run (owns t) (smoothen t delta) (withField s (now («field_y» .entry)) (now («field_x» .entry)) (now («field_ref» .entry)))) ⌝ }
+{
+    let mut sx = t.left;
+    while sx < t.right {
+        let xend = least(t.right, sx + t.block);
+        let mut sy = t.top;
+        while sy < t.bottom {
+            smooth_block(field_y, field_x, field_ref, t, delta, sx, xend, sy);
+            sy += t.block;
+        }
+        sx += t.block;
+    }
+}
