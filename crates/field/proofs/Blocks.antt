@@ -25,7 +25,7 @@ use Rattle.tile.proofs.Places.{sides, block-some, step-some}
 use Rattle.field.specs.Field.{asByte, around, smoothCell, smoothBlock, smoothen}
 use Rattle.field.specs.Code.{cellIn, InBlock}
 use Rattle.field.proofs.Owned.{around-same}
-use Rattle.field.proofs.Samples.{Lists, within, Like, like-refl, like-trans}
+use Rattle.field.proofs.Lists.{Lists, within, Like, like-refl, like-trans}
 use Rattle.field.proofs.Ways.{Set}
 
 -- a store to two lines, here and elsewhere

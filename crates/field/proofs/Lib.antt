@@ -1,5 +1,5 @@
 pub mod Owned
-pub mod Samples
+pub mod Lists
 pub mod Ways
 pub mod Keeps
 pub mod Blocks

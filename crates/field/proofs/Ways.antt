@@ -12,12 +12,13 @@ use Rattle.tile.specs.declared.Tile.{Tile}
 use Rattle.tile.specs.Layout.{fieldAt}
 use Rattle.tile.specs.Owner.{ownBlock, owns}
 use Rattle.tile.specs.Passes.{hasLeft, hasRight, hasAbove, hasBelow}
-use Rattle.tile.specs.Sound.{Sound, InTile, Sample}
+use Rattle.tile.specs.Sound.{Sound, InTile, Sample, Gaps}
 use Rattle.tile.proofs.Owner.{own-cell, mine-in}
 use Rattle.field.specs.Field.{asByte, projected, put, projectTip, fillHole, fillAround, beside, putGapsProj, gapProj}
-use Rattle.field.specs.Code.{besideOf, Gaps}
+use Rattle.field.specs.Code.{besideOf}
 use Rattle.field.proofs.Owned.{own-above}
-use Rattle.field.proofs.Samples.{Lists, within, right-two, below-two, both-two}
+use Rattle.tile.proofs.Samples.{right-two, below-two, both-two}
+use Rattle.field.proofs.Lists.{Lists, within}
 
 -- cell i
 abbrev pub cellOf : Lists → ℕ → Mv

@@ -1,6 +1,6 @@
 -- What the contracts of the passes' code speak of besides the definitions. Assumes nothing.
 use mathlib.Core.Path.{_≡_}
-use mathlib.Core.Bool.{Bool, true, cond}
+use mathlib.Core.Bool.{Bool, cond}
 use mathlib.Core.List.{List}
 use Prim.Native.Nat.{ℕ, _+_, _-_, _/_, _%_, _≤_, _<_, min}
 use lib.IntN.{ℤ, pos}
@@ -10,7 +10,6 @@ use Rattle.levels.specs.Vector.{empty}
 use Rattle.mv.specs.Sums.{isEmpty}
 use Rattle.store.specs.Store.{vec}
 use Rattle.tile.specs.declared.Tile.{Tile}
-use Rattle.tile.specs.Owner.{ownBlock}
 use Rattle.field.specs.Field.{projected}
 
 -- cell i of the vectors as they are lent
@@ -20,13 +19,6 @@ cellIn fy fx i = vec (getD fy i (pos 0)) (getD fx i (pos 0))
 -- what `beside` hands on to the rest of its program
 abbrev pub besideOf : Bool → ℕ → ℕ → List ℤ → List ℤ → List ℕ → Mv
 besideOf there to i fy fx fr = cond there (cond (isEmpty (cellIn fy fx i)) empty (projected (pos to) (pos (getD fr i 0)) (cellIn fy fx i))) empty
-
--- the cells to the right, below and between are the tile's too, with step 2
-pub record Gaps (t : Tile) (y x : ℕ) : Type 0 where
-  pub top : t .top ≤ y
-  pub below : y + 1 < t .top + t .side
-  pub here : ownBlock t (x / t .block + 1) ≡ true
-  pub right : ownBlock t ((x + 1) / t .block + 1) ≡ true
 
 -- the block from row sy, column sx on, and how many sampled rows and columns it has
 pub record InBlock (t : Tile) (sx xend sy rows cols : ℕ) : Type 0 where

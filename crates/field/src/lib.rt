@@ -12,32 +12,15 @@ ghost use Rattle.store.specs.Program.{run, when, snapshot};
 ghost use Rattle.tile.specs.Layout.{rowCells, fieldAt, blockStart};
 ghost use Rattle.tile.specs.Owner.{owns};
 ghost use Rattle.tile.specs.Passes.{hasAbove, hasBelow};
-ghost use Rattle.tile.specs.Sound.{Sound, InTile, Sample, FieldHeld};
+ghost use Rattle.tile.specs.Sound.{Sound, InTile, Sample, Gaps, FieldHeld};
 ghost use Rattle.field.specs.Field.{asByte, projected, copyAbove, emptyField, projectTip, tipProjection, fillHole, fillAround, fillHoles, putGapsProj, gapProj, fillGapProj, addedIf, around, smoothBlock, smoothen};
-ghost use Rattle.field.specs.Code.{cellIn, besideOf, Gaps, InBlock};
+ghost use Rattle.field.specs.Code.{cellIn, besideOf, InBlock};
 use levels::Mv;
 use mv::Sum;
 use tile::Tile;
 
-// The place of a cell of the superblock row: its rows begin at the tile's, so none is divided.
-fn field_at(t: Tile, y: usize, x: usize) -> usize
-    requires { ⌜ Sound t × (t .top ≤ y) × (y < t .top + t .side) × (x < t .stride) ⌝ }
-    ensures { λ r. ⌜ r ≡ fieldAt t y x ⌝ }
-{
-    t.offset + ((y - t.top) * t.stride + x)
-}
-
-fn cell_at(field_y: &[i32], field_x: &[i32], at: usize) -> Mv
-    requires { ⌜ (at < length (now «field_y»)) × (at < length (now «field_x»)) ⌝ }
-    ensures { λ r. ⌜ r ≡ vec (getD (now («field_y» .entry)) at (pos 0)) (getD (now («field_x» .entry)) at (pos 0)) ⌝ }
-{
-    let y = field_y[at];
-    let x = field_x[at];
-    Mv { y, x }
-}
-
 // A cell with its reference byte.
-fn put(field_y: &mut [i32], field_x: &mut [i32], field_ref: &mut [u8], at: usize, v: Mv, r: u8)
+pub fn put(field_y: &mut [i32], field_x: &mut [i32], field_ref: &mut [u8], at: usize, v: Mv, r: u8)
     requires { ⌜ (at < length (now «field_y»)) × (at < length (now «field_x»)) × (at < length (now «field_ref»)) ⌝ }
     ensures { λ _. ⌜ ((s : Store) → withField s (now («field_y» .exit)) (now («field_x» .exit)) (now («field_ref» .exit))
         ≡ wr (wr (withField s (now («field_y» .entry)) (now («field_x» .entry)) (now («field_ref» .entry))) fieldMvs at v) fieldRefs at (byteCell r)) ⌝ }
@@ -57,7 +40,7 @@ pub fn empty_field(field_y: &mut [i32], field_x: &mut [i32], t: Tile)
 {
     for y in t.top..t.bottom {
         for x in t.left..t.right {
-            let at = field_at(t, y, x);
+            let at = tile::field_at(t, y, x);
             field_y[at] = levels::INVALID_MV;
             field_x[at] = 0;
         }
@@ -72,7 +55,7 @@ fn copy_cell(field_y: &mut [i32], field_x: &mut [i32], field_ref: &mut [u8], fro
         ≡ (let u = withField s (now («field_y» .entry)) (now («field_x» .entry)) (now («field_ref» .entry)) in
         wr (wr u fieldMvs to (rd u fieldMvs from)) fieldRefs to (rd u fieldRefs from))) ⌝ }
 {
-    let v = cell_at(field_y, field_x, from);
+    let v = tile::cell_at(field_y, field_x, from);
     let r = field_ref[from];
     put(field_y, field_x, field_ref, to, v, r);
 }
@@ -118,12 +101,6 @@ fn project(table: &[u16; 32], num: i32, den: i32, v: Mv) -> Mv
     mv::scale_vector(v, sf, -2047, 2047)
 }
 
-fn least(a: usize, b: usize) -> usize
-    ensures { λ r. ⌜ r ≡ min a b ⌝ }
-{
-    if a < b { a } else { b }
-}
-
 fn project_tip(
     field_y: &mut [i32],
     field_x: &mut [i32],
@@ -138,8 +115,8 @@ fn project_tip(
     ensures { λ _. ⌜ ((s : Store) → withField s (now («field_y» .exit)) (now («field_x» .exit)) (now («field_ref» .exit))
         ≡ run (owns t) (projectTip t delta y x) (withField s (now («field_y» .entry)) (now («field_x» .entry)) (now («field_ref» .entry)))) ⌝ }
 {
-    let at = field_at(t, y, x);
-    let v = cell_at(field_y, field_x, at);
+    let at = tile::field_at(t, y, x);
+    let v = tile::cell_at(field_y, field_x, at);
     if mv::is_empty(v) {
         return;
     }
@@ -162,7 +139,7 @@ pub fn tip_projection(
 {
     let mut sx = t.left;
     while sx < t.right {
-        let xend = least(t.right, sx + t.block);
+        let xend = tile::least(t.right, sx + t.block);
         let mut y = t.top;
         while y < t.bottom {
             let mut x = sx;
@@ -174,37 +151,6 @@ pub fn tip_projection(
         }
         sx += t.block;
     }
-}
-
-fn less(a: usize, b: usize) -> usize
-    ensures { λ r. ⌜ r ≡ a - b ⌝ }
-{
-    if a < b { 0 } else { a - b }
-}
-
-// Where the block begins; its side is a power of two that the compiler cannot know.
-fn block_start(t: Tile, y: usize) -> usize
-    requires { ⌜ Sound t ⌝ }
-    ensures { λ r. ⌜ r ≡ blockStart t y ⌝ }
-{
-    if t.block == 8 { y / 8 * 8 } else { y / 16 * 16 }
-}
-
-// Has the block another sampled row above?
-fn has_above(t: Tile, y: usize) -> bool
-    requires { ⌜ Sound t × (y < t .bottom) ⌝ }
-    ensures { λ r. ⌜ r ≡ hasAbove t y ⌝ }
-{
-    block_start(t, y) + t.step <= y
-}
-
-// And below?
-fn has_below(t: Tile, y: usize) -> bool
-    requires { ⌜ Sound t × (y < t .bottom) ⌝ }
-    ensures { λ r. ⌜ r ≡ hasBelow t y ⌝ }
-{
-    let end = least(block_start(t, y) + t.block, t.bottom);
-    y + t.step < end
 }
 
 // v goes into a cell that is there and empty.
@@ -226,8 +172,8 @@ fn fill_hole(
     if !there {
         return;
     }
-    let at = field_at(t, y, x);
-    let u = cell_at(field_y, field_x, at);
+    let at = tile::field_at(t, y, x);
+    let u = tile::cell_at(field_y, field_x, at);
     if !mv::is_empty(u) {
         return;
     }
@@ -250,8 +196,8 @@ fn fill_around(
     ensures { λ _. ⌜ ((s : Store) → withField s (now («field_y» .exit)) (now («field_x» .exit)) (now («field_ref» .exit))
         ≡ run (owns t) (fillAround t delta sx xend y x) (withField s (now («field_y» .entry)) (now («field_x» .entry)) (now («field_ref» .entry)))) ⌝ }
 {
-    let at = field_at(t, y, x);
-    let v = cell_at(field_y, field_x, at);
+    let at = tile::field_at(t, y, x);
+    let v = tile::cell_at(field_y, field_x, at);
     if mv::is_empty(v) {
         return;
     }
@@ -264,7 +210,7 @@ fn fill_around(
         delta,
         v,
         y,
-        less(x, t.step),
+        tile::less(x, t.step),
     );
     fill_hole(
         field_y,
@@ -281,18 +227,18 @@ fn fill_around(
         field_y,
         field_x,
         field_ref,
-        has_above(t, y),
+        tile::has_above(t, y),
         t,
         delta,
         v,
-        less(y, t.step),
+        tile::less(y, t.step),
         x,
     );
     fill_hole(
         field_y,
         field_x,
         field_ref,
-        has_below(t, y),
+        tile::has_below(t, y),
         t,
         delta,
         v,
@@ -315,7 +261,7 @@ pub fn fill_holes(
 {
     let mut sx = t.left;
     while sx < t.right {
-        let xend = least(t.right, sx + t.block);
+        let xend = tile::least(t.right, sx + t.block);
         let mut y = t.top;
         while y < t.bottom {
             let mut x = sx;
@@ -350,8 +296,8 @@ fn beside(
             x: 0,
         };
     }
-    let at = field_at(t, y, x);
-    let v = cell_at(field_y, field_x, at);
+    let at = tile::field_at(t, y, x);
+    let v = tile::cell_at(field_y, field_x, at);
     if mv::is_empty(v) {
         return Mv {
             y: levels::INVALID_MV,
@@ -387,16 +333,23 @@ fn put_gaps_proj(
         field_y,
         field_x,
         field_ref,
-        field_at(t, y, x + 1),
+        tile::field_at(t, y, x + 1),
         beside,
         r,
     );
-    put(field_y, field_x, field_ref, field_at(t, y + 1, x), below, r);
     put(
         field_y,
         field_x,
         field_ref,
-        field_at(t, y + 1, x + 1),
+        tile::field_at(t, y + 1, x),
+        below,
+        r,
+    );
+    put(
+        field_y,
+        field_x,
+        field_ref,
+        tile::field_at(t, y + 1, x + 1),
         between,
         r,
     );
@@ -417,14 +370,14 @@ fn gap_proj(
     ensures { λ _. ⌜ ((s : Store) → withField s (now («field_y» .exit)) (now («field_x» .exit)) (now («field_ref» .exit))
         ≡ run (owns t) (gapProj t sx xend y x) (withField s (now («field_y» .entry)) (now («field_x» .entry)) (now («field_ref» .entry)))) ⌝ }
 {
-    let at = field_at(t, y, x);
-    let v = cell_at(field_y, field_x, at);
+    let at = tile::field_at(t, y, x);
+    let v = tile::cell_at(field_y, field_x, at);
     if mv::is_empty(v) {
         return;
     }
     let r = field_ref[at];
     let right = x + t.step < xend;
-    let below = has_below(t, y);
+    let below = tile::has_below(t, y);
     let a = beside(right, field_y, field_x, field_ref, table, t, r, y, x + 2);
     let b = beside(below, field_y, field_x, field_ref, table, t, r, y + 2, x);
     let c = beside(
@@ -454,7 +407,7 @@ pub fn fill_gap_proj(
 {
     let mut sx = t.left;
     while sx < t.right {
-        let xend = least(t.right, sx + t.block);
+        let xend = tile::least(t.right, sx + t.block);
         let mut y = t.top;
         while y < t.bottom {
             let mut x = sx;
@@ -476,8 +429,8 @@ fn add_if(there: bool, field_y: &[i32], field_x: &[i32], t: Tile, y: usize, x: u
     if !there {
         return s;
     }
-    let at = field_at(t, y, x);
-    mv::add(cell_at(field_y, field_x, at), s)
+    let at = tile::field_at(t, y, x);
+    mv::add(tile::cell_at(field_y, field_x, at), s)
 }
 
 // A cell and its neighbours of the block.
@@ -501,12 +454,28 @@ fn around_at(
         field_x,
         t,
         y,
-        less(x, t.step),
+        tile::less(x, t.step),
         s1,
     );
     let s3 = add_if(x + t.step < xend, field_y, field_x, t, y, x + t.step, s2);
-    let s4 = add_if(has_above(t, y), field_y, field_x, t, less(y, t.step), x, s3);
-    add_if(has_below(t, y), field_y, field_x, t, y + t.step, x, s4)
+    let s4 = add_if(
+        tile::has_above(t, y),
+        field_y,
+        field_x,
+        t,
+        tile::less(y, t.step),
+        x,
+        s3,
+    );
+    add_if(
+        tile::has_below(t, y),
+        field_y,
+        field_x,
+        t,
+        y + t.step,
+        x,
+        s4,
+    )
 }
 
 // The means of a block's sampled cells, cell (a, b) at 8 a + b.
@@ -569,7 +538,7 @@ fn put_mean(
         field_y,
         field_x,
         field_ref,
-        field_at(t, y, x),
+        tile::field_at(t, y, x),
         Mv { y: y1, x: x1 },
         as_byte(delta),
     );
@@ -613,14 +582,6 @@ fn put_means(
     }
 }
 
-// How many sampled rows or columns there are from a up to b.
-fn count(t: Tile, a: usize, b: usize) -> usize
-    requires { ⌜ Sound t × (a ≤ b) × (b ≤ 16384) ⌝ }
-    ensures { λ r. ⌜ r ≡ (b - a + (t .step - 1)) / t .step ⌝ }
-{
-    if t.step == 1 { b - a } else { (b - a + 1) / 2 }
-}
-
 // All means first, from the originals.
 fn smooth_block(
     field_y: &mut [i32],
@@ -637,8 +598,8 @@ fn smooth_block(
     ensures { λ _. ⌜ ((s : Store) → withField s (now («field_y» .exit)) (now («field_x» .exit)) (now («field_ref» .exit))
         ≡ run (owns t) (snapshot (smoothBlock t delta sx xend sy)) (withField s (now («field_y» .entry)) (now («field_x» .entry)) (now («field_ref» .entry)))) ⌝ }
 {
-    let rows = count(t, sy, least(t.bottom, sy + t.block));
-    let cols = count(t, sx, xend);
+    let rows = tile::count(t, sy, tile::least(t.bottom, sy + t.block));
+    let cols = tile::count(t, sx, xend);
     let mut line_y = [0i32; 64];
     let mut line_x = [0i32; 64];
     block_means(
@@ -677,7 +638,7 @@ pub fn smoothen(field_y: &mut [i32], field_x: &mut [i32], field_ref: &mut [u8], 
 {
     let mut sx = t.left;
     while sx < t.right {
-        let xend = least(t.right, sx + t.block);
+        let xend = tile::least(t.right, sx + t.block);
         let mut sy = t.top;
         while sy < t.bottom {
             smooth_block(field_y, field_x, field_ref, t, delta, sx, xend, sy);

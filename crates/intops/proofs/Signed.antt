@@ -15,7 +15,7 @@ use lib.Pow.{pow-pos, pow-lt}
 use borrow.Author.Needs.{needs}
 use Rattle.intops.specs.Choice.{pickZ, eqZ, clipZ, withSign}
 use Rattle.intops.specs.Bounds.{Within}
-use borrow.Author.Tests.{ltb-true, ltb-false, leb-true, leb-false, le-ltb, eqb-true, eqb-false, eq-eqb, ne-eqb}
+use borrow.Author.Tests.{ltb-true, ltb-false, leb-true, leb-false, le-leb, le-ltb, eqb-true, eqb-false, eq-eqb, ne-eqb}
 
 abbrev pub up : ℤ → ℕ
 up (pos n) = n
@@ -357,3 +357,15 @@ abs-neg n = omega (signed, ud (negℤ (pos n)), ud-neg (pos n))
 pub abs-sign : (z : ℤ) (n : ℕ) → natAbs (withSign z n) ≡ n
 abs-sign (pos m) n = refl
 abs-sign (negsuc m) n = abs-neg n
+
+-- ---- zero minus z, as code turns a number round
+pub zero-minus : (z : ℤ) → pos 0 -ℤ z ≡ negℤ z
+zero-minus z = omega (signed, ud-minus (pos 0) z, ud-neg z)
+
+pub abs-zero-minus : (z : ℤ) → natAbs (pos 0 -ℤ z) ≡ natAbs z
+abs-zero-minus z = omega (signed, ud z, ud (pos 0 -ℤ z), ud-minus (pos 0) z)
+
+-- a test of a sign
+pub le-nonNeg : (z : ℤ) → leZ (pos 0) z ≡ nonNeg z
+le-nonNeg (pos n) = le-leb 0 n (omega arith)
+le-nonNeg (negsuc n) = refl

@@ -2,6 +2,7 @@
 ghost use mathlib.Core.Path.{_≡_};
 
 // A motion vector, y first. It is empty (01's term) where y is INVALID_MV; (0, 0) is a still cell.
+#[repr(C)]
 pub struct Mv {
     pub y: i32,
     pub x: i32,

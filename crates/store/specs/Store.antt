@@ -25,6 +25,10 @@ pack fy fx fr ty tx my mx = record { fieldY = fy; fieldX = fx; fieldRef = fr; tr
 abbrev pub withField : Store → List ℤ → List ℤ → List ℕ → Store
 withField s fy fx fr = pack fy fx fr (s .trajY) (s .trajX) (s .mapY) (s .mapX)
 
+-- a store with other trajectories and maps
+abbrev pub withTraj : Store → List ℤ → List ℤ → List ℤ → List ℤ → Store
+withTraj s ty tx my mx = pack (s .fieldY) (s .fieldX) (s .fieldRef) ty tx my mx
+
 -- the kinds of cells: field vectors, their reference bytes, trajectories, maps
 pub data Kind : Type 0 where
   fieldMvs : Kind

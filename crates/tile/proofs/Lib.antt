@@ -1,3 +1,5 @@
 pub mod Places
 pub mod Owner
 pub mod Passes
+pub mod Samples
+pub mod Moves

@@ -10,7 +10,7 @@ use lib.Dec.{leb, ltb}
 use lib.Arith.{digits-lt, digits-div, digits-mod}
 use Rattle.intops.proofs.Tests.{and-both}
 use Rattle.tile.specs.declared.Tile.{Tile}
-use Rattle.tile.specs.Layout.{rowCells, place, fieldAt, trajAt, mapAt, onStep, blockStart, nearCol}
+use Rattle.tile.specs.Layout.{rowCells, place, fieldAt, trajAt, mapAt, onStep, blockStart, nearCol, sameRows}
 use Rattle.tile.specs.Sound.{Sound}
 
 module _ (t : Tile) (k : Sound t) where
@@ -48,6 +48,19 @@ module _ (t : Tile) (k : Sound t) where
       go (inl p) = absurd (n p)
       go (inr p) = p
 
+  -- a superblock that is not of 8 or 16 is of 32
+  pub side-else : (t .side ≡ 8 → ⊥) → (t .side ≡ 16 → ⊥) → t .side ≡ 32
+  side-else n m = go (k .sideKind)
+    where
+      go : (t .side ≡ 8) ⊎ ((t .side ≡ 16) ⊎ (t .side ≡ 32)) → t .side ≡ 32
+      go (inl p) = absurd (n p)
+      go (inr (inl p)) = absurd (m p)
+      go (inr (inr p)) = p
+
+  -- a block begins at a sampled row and column
+  pub block-on-step : (n : ℕ) → n % t .block ≡ 0 → n % t .step ≡ 0
+  block-on-step n = sides (λ B s. n % B ≡ 0 → n % s ≡ 0) (λ h. omega arith) (λ h. omega arith) (λ h. omega arith) (λ h. omega arith)
+
   -- the block of a row of the tile begins in the tile
   pub block-top : (y : ℕ) → t .top ≤ y → (t .top ≤ blockStart t y) × (blockStart t y ≤ y)
   unfolding blockStart
@@ -71,7 +84,7 @@ module _ (t : Tile) (k : Sound t) where
       omega (arith, o, add-mul (t .offset / t .stride) (y % t .side) (t .stride)) in
       ap (λ (i : ℕ). i % t .stride) e ∙ digits-mod (t .offset / t .stride + y % t .side) h
 
-  place-low : (y x : ℕ) → x < t .stride → place t y x < rowCells t
+  pub place-low : (y x : ℕ) → x < t .stride → place t y x < rowCells t
   unfolding place rowCells
   place-low y x h = digits-lt (row-low y) h
 
@@ -111,9 +124,12 @@ module _ (t : Tile) (k : Sound t) where
   last-in r x p h = let l : t .side - 3 + r < t .side = omega (arith, side-some) in digits-lt l h
 
   -- places have 32 bits
-  pub cells-low : t .offset + rowCells t ≤ 67371008
+  pub row-cells-low : rowCells t ≤ 262144
   unfolding rowCells
-  cells-low = let m : t .side * t .stride ≤ 32 * 8192 = mul-le-mul (k .sideLow) (k .strideLow) in omega (arith, k .offsetLow)
+  row-cells-low = mul-le-mul (k .sideLow) (k .strideLow)
+
+  pub cells-low : t .offset + rowCells t ≤ 67371008
+  cells-low = omega (arith, row-cells-low, k .offsetLow)
 
   -- the place of a cell: within lists that reach to the end of the superblock row
   pub at-low : (i y x : ℕ) → i ≡ fieldAt t y x → x < t .stride → (i < t .offset + rowCells t) × (t .offset + rowCells t ≤ 67371008)
@@ -190,3 +206,22 @@ near-col t k a b h =
     let l : a / t .block * t .block - t .edge ≤ b = leb-true (a / t .block * t .block - t .edge) b (w .0) in
     let e : b < min (a / t .block * t .block + t .block + t .edge) (t .wide) = ltb-true b (min (a / t .block * t .block + t .block + t .edge) (t .wide)) (w .1) in
     (near-block t k a b l (omega arith), omega arith)
+
+-- a row of a's window is of a's block
+pub near-row : (t : Tile) → Sound t → (a b : ℕ) → sameRows t a b ≡ true → Near t a b × (b < t .high)
+unfolding sameRows blockStart
+near-row t k a b h =
+    let w = and-both (leb (a / t .block * t .block) b) (ltb b (min (a / t .block * t .block + t .block) (t .high))) h in
+    let l : a / t .block * t .block ≤ b = leb-true (a / t .block * t .block) b (w .0) in
+    let e : b < min (a / t .block * t .block + t .block) (t .high) = ltb-true b (min (a / t .block * t .block + t .block) (t .high)) (w .1) in
+    (near-block t k a b (omega arith) (omega arith), omega arith)
+
+-- the sampled place is in the window too
+pub near-step : (t : Tile) → Sound t → (a b : ℕ) → Near t a b → Near t a (onStep t b)
+near-step t k a b n = record { right = rw (step-block t k b) (n .right); left = rw (step-block t k b) (n .left) }
+
+-- a signed byte holds the way between two places of a window
+pub near-low : (t : Tile) → Sound t → (a b : ℕ) → Near t a b → (a ≤ b + 127) × (b ≤ a + 127)
+near-low t k a b n =
+    sides t k (λ B s. b / B ≤ a / B + 1 → a / B ≤ b / B + 1 → (a ≤ b + 127) × (b ≤ a + 127))
+    (λ p q. omega arith) (λ p q. omega arith) (λ p q. omega arith) (λ p q. omega arith) (n .right) (n .left)

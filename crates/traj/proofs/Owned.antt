@@ -1,10 +1,8 @@
 -- The passes over trajectories and maps read and write the tile's own cells alone. Assumes nothing.
 use mathlib.Core.Path.{_≡_}
-use mathlib.Core.Bool.{Bool, true, not, _&&_}
+use mathlib.Core.Bool.{true, _&&_}
 use Prim.Native.Nat.{ℕ, _+_, _-_, _*_, _/_, _%_, _≤_, _<_, min}
 use native.Mathlib.Omega.{arith}
-use borrow.Author.Tests.{ltb-true, eqb-true}
-use lib.Dec.{eqb, ltb}
 use Rattle.intops.proofs.Tests.{and-both}
 use Rattle.levels.specs.declared.Mv.{Mv}
 use Rattle.levels.specs.Vector.{empty}
@@ -12,14 +10,15 @@ use Rattle.store.specs.Store.{trajs, maps}
 use Rattle.store.specs.Program.{write, cellIf}
 use Rattle.store.proofs.Owned.{Owned}
 use Rattle.tile.specs.declared.Tile.{Tile}
-use Rattle.tile.specs.Layout.{trajAt, mapAt, onStep, nearCol, sameRows, cellsOf, there, moved}
+use Rattle.tile.specs.Layout.{trajAt, mapAt, moved}
 use Rattle.tile.specs.Owner.{ownBlock, owns}
 use Rattle.tile.specs.Passes.{hasRight, hasBelow}
 use Rattle.tile.specs.Sound.{Sound}
-use Rattle.tile.proofs.Places.{sides, step-block, step-le, Near, near-col}
+use Rattle.tile.proofs.Places.{sides, Near}
 use Rattle.tile.proofs.Owner.{mine-of, mine-in, own-traj, own-map}
 use Rattle.tile.proofs.Passes.{Sampled, mine-sampled, mine-beside, mine-between, owned-samples, owned-cells}
-use Rattle.traj.specs.Traj.{isNoMap, emptyTraj, emptyMap, emptyTrajs, endsIn, enterEnd, extend, leads, follow, inFrame, firstHalf, secondHalf, checkTrajIntersect, putGapsTraj, gapTraj, fillGapTraj}
+use Rattle.traj.specs.Traj.{emptyTraj, emptyMap, emptyTrajs, enterEnd, extend, follow, firstHalf, secondHalf, checkTrajIntersect, putGapsTraj, gapTraj, fillGapTraj}
+use Rattle.traj.proofs.Windows.{ends-near, leads-near, in-frame}
 
 module _ (t : Tile) (k : Sound t) where
   pub owned-emptyTraj : (n : ℕ) → n < 7 → Owned (owns t) (emptyTraj t n)
@@ -27,7 +26,7 @@ module _ (t : Tile) (k : Sound t) where
   owned-emptyTraj n l = owned-cells t k (λ y x. write trajs (trajAt t n y x) empty) (λ y x p q. own-traj t k n y x l (mine-in t k x p q))
 
   -- the columns that are emptied in plane j are of the tile's blocks, j blocks back
-  mine-map : (j x : ℕ) → t .left + t .block - j * t .block ≤ x → x < (t .right + (t .block - 1)) / t .block * t .block + t .block - j * t .block
+  pub mine-map : (j x : ℕ) → t .left + t .block - j * t .block ≤ x → x < (t .right + (t .block - 1)) / t .block * t .block + t .block - j * t .block
       → ownBlock t (x / t .block + j) ≡ true
   mine-map j x p q =
       mine-of t (x / t .block + j)
@@ -53,22 +52,9 @@ module _ (t : Tile) (k : Sound t) where
       (let e : x₂ / t .block + (x₁ / t .block + 1 - x₂ / t .block) ≡ x₁ / t .block + 1 = omega (arith, b .right) in rw e m)
 
   pub owned-enterEnd : (n y₁ x₁ y x : ℕ) (v : Mv) → n < 7 → ownBlock t (x₁ / t .block + 1) ≡ true → Owned (owns t) (enterEnd t n y₁ x₁ y x v)
-  unfolding enterEnd endsIn
-  owned-enterEnd n y₁ x₁ y x v l m = (λ e. ends e, λ e. tt)
-    where
-      x₂ : ℕ
-      x₂ = moved x (cellsOf (v .x))
-
-      first : Bool
-      first = there y (cellsOf (v .y)) && there x (cellsOf (v .x))
-
-      ends : (first && nearCol t x₁ x₂ && sameRows t y₁ (moved y (cellsOf (v .y)))) ≡ true
-          → owns t maps (mapAt t (x₁ / t .block + 1 - onStep t x₂ / t .block) n (onStep t (moved y (cellsOf (v .y)))) (onStep t x₂)) ≡ true
-      ends e =
-          let a = and-both (first && nearCol t x₁ x₂) (sameRows t y₁ (moved y (cellsOf (v .y)))) e .0 in
-          let w = near-col t k x₁ x₂ (and-both first (nearCol t x₁ x₂) a .1) in
-          let near : Near t x₁ (onStep t x₂) = record { right = rw (step-block t k x₂) (w .0 .right); left = rw (step-block t k x₂) (w .0 .left) } in
-          own-end n (onStep t (moved y (cellsOf (v .y)))) x₁ (onStep t x₂) l m near (omega (arith, step-le t k x₂, w .1, k .wide))
+  unfolding enterEnd
+  owned-enterEnd n y₁ x₁ y x v l m =
+      (λ e. let w = ends-near t k y₁ x₁ y x v e in own-end n _ x₁ _ l m (w .cols) (omega (arith, w .low, k .wide)), λ e. tt)
 
   pub owned-extend : (bound a b y₁ x₁ : ℕ) (mv : Mv) → a < 7 → b < 7 → ownBlock t (x₁ / t .block + 1) ≡ true → Owned (owns t) (extend t bound a b y₁ x₁ mv)
   unfolding extend
@@ -78,46 +64,22 @@ module _ (t : Tile) (k : Sound t) where
         (λ e. (own-traj t k a y₁ x₁ p m, λ v. (own-traj t k b y₁ x₁ q m, owned-enterEnd b y₁ x₁ y₁ x₁ _ q m)), λ e. tt),
   )
 
-  -- where a map cell leads is of the block that its plane says
-  leads-block : (m : Mv) (j y x y₀ x₀ : ℕ) → leads t m j y x y₀ x₀ ≡ true → moved x (m .x) / t .block + 1 ≡ x / t .block + j
-  unfolding leads
-  leads-block m j y x y₀ x₀ h =
-      let y₁ : ℕ = moved y (m .y) in
-      let x₁ : ℕ = moved x (m .x) in
-      let found : Bool = not (isNoMap m) && there y (m .y) && there x (m .x) in
-      let to : Bool = found && eqb (x₁ / t .block + 1) (x / t .block + j) in
-      let near : Bool = to && nearCol t x₁ x in
-      let both : Bool = near && nearCol t x₁ x₀ in
-      let rows : Bool = both && sameRows t y₁ y in
-      let a = and-both rows (sameRows t y₁ y₀) h .0 in
-      let b = and-both both (sameRows t y₁ y) a .0 in
-      let c = and-both near (nearCol t x₁ x₀) b .0 in
-      let d = and-both to (nearCol t x₁ x) c .0 in
-      eqb-true (x₁ / t .block + 1) (x / t .block + j) (and-both found (eqb (x₁ / t .block + 1) (x / t .block + j)) d .1)
-
   pub owned-follow : (bound a b y x y₀ x₀ : ℕ) (mv : Mv) (j : ℕ) → j < 3 → a < 7 → b < 7 → x < t .wide → Owned (owns t) (follow t bound a b y x y₀ x₀ mv j)
   unfolding follow
   owned-follow bound a b y x y₀ x₀ mv j z p q w = (
     λ e. (
       own-map t k j a y x z p (omega (arith, k .wide)) e,
       λ m.
-          (λ g. owned-extend bound a b (moved y (m .y)) (moved x (m .x)) mv p q (rw (leads-block m j y x y₀ x₀ g) e), λ g. tt),
+          (λ g. owned-extend bound a b (moved y (m .y)) (moved x (m .x)) mv p q (rw (leads-near t k m j y x y₀ x₀ g .block) e), λ g. tt),
     ),
     λ e. tt,
   )
-
-  -- where a vector ends in the frame
-  in-frame : (y x : ℕ) (mv : Mv) → inFrame t y x mv ≡ true → moved x (cellsOf (mv .x)) < t .wide
-  unfolding inFrame
-  in-frame y x mv h =
-      ltb-true (moved x (cellsOf (mv .x))) (t .wide)
-      (and-both (there y (cellsOf (mv .y)) && there x (cellsOf (mv .x)) && ltb (moved y (cellsOf (mv .y))) (t .high)) (ltb (moved x (cellsOf (mv .x))) (t .wide)) h .1)
 
   pub owned-checkTrajIntersect : (a b y x : ℕ) (mv : Mv) → a < 7 → b < 7 → x < t .wide → Owned (owns t) (checkTrajIntersect t a b y x mv)
   unfolding checkTrajIntersect firstHalf secondHalf
   owned-checkTrajIntersect a b y x mv p q w = (
     λ j l. owned-follow _ a b y x y x mv (0 + j * 1) (omega arith) p q w,
-    (λ e j l. owned-follow _ b a _ _ y x _ (0 + j * 1) (omega arith) q p (omega (arith, step-le t k (moved x (cellsOf (mv .x))), in-frame y x mv e)), λ e. tt),
+    (λ e j l. owned-follow _ b a _ _ y x _ (0 + j * 1) (omega arith) q p (in-frame t k y x mv e .1), λ e. tt),
   )
 
   owned-putGapsTraj : (n sx y x : ℕ) (v a b c : Mv) → n < 7 → Sampled t sx x → t .step ≡ 2 → Owned (owns t) (putGapsTraj t n y x v a b c)

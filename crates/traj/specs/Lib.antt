@@ -1,1 +1,2 @@
 pub mod Traj
+pub mod Code

@@ -2,10 +2,10 @@
 use mathlib.Core.Path.{_≡_, sym, ap, _∙_}
 use Prim.Native.Nat.{ℕ, _*_}
 use native.Mathlib.Omega.{arith}
-use lib.IntN.{pos, natAbs, _-ℤ_, negℤ}
+use lib.IntN.{pos, natAbs, _-ℤ_}
 use mir.Syntax.{w32}
 use mir.Val.{SFits}
-use Rattle.intops.proofs.Signed.{back, signed, ud-minus, ud-neg}
+use Rattle.intops.proofs.Signed.{back, signed, ud-minus, zero-minus}
 use Rattle.entry.specs.Entry.{ratioZ, size, min31, sameSign}
 use Rattle.entry.proofs.Laws.{min31-le, size-le}
 use borrow.Author.Needs.{needs}
@@ -30,9 +30,6 @@ m-fits c = omega (signed, v-is c, size-le (c .before .before .before .before .be
 
 side : (c : tie.After-same-sign) → sameSign (c .before .before .before .before .before .before .args .a) (c .before .before .before .before .before .before .args .b) ≡ c .same-sign .result
 side c = let f = c .before .before .before .before .before .before .fits .a in let g = c .before .before .before .before .before .before .fits .b in sym (simp back at (c .same-sign .ensures))
-
-zero-minus : (n : ℕ) → pos 0 -ℤ pos n ≡ negℤ (pos n)
-zero-minus n = omega (signed, ud-minus (pos 0) (pos n), ud-neg (pos n))
 
 unsigned-abs-requires : tie.Need-unsigned-abs-requires
 unsigned-abs-requires c κs = search needs
@@ -76,7 +73,7 @@ returns c = let f = v-fits (c .before .before) in rw (side (c .before) ∙ c .if
 
 returns-2 : tie.Need-returns-2
 unfolding ratioZ
-returns-2 c = let f = v-fits (c .before .before) in let g = m-fits (c .before .before) in rw (side (c .before) ∙ c .if1 .left) (simp back (ap (λ (n : ℕ). pos 0 -ℤ pos n) (v-is (c .before .before)) ∙ zero-minus (size (c .before .before .before .before .before .before .before .args .a) (c .before .before .before .before .before .before .before .args .b))))
+returns-2 c = let f = v-fits (c .before .before) in let g = m-fits (c .before .before) in rw (side (c .before) ∙ c .if1 .left) (simp back (ap (λ (n : ℕ). pos 0 -ℤ pos n) (v-is (c .before .before)) ∙ zero-minus (pos (size (c .before .before .before .before .before .before .before .args .a) (c .before .before .before .before .before .before .before .args .b)))))
 
 pub ratio-spec : {M : Type 1} → statement M
 ratio-spec =

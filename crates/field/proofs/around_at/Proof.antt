@@ -13,7 +13,7 @@ use Rattle.tile.specs.Layout.{fieldAt}
 use Rattle.tile.specs.Sound.{InTile}
 use Rattle.tile.specs.Passes.{hasLeft, hasRight, hasAbove, hasBelow}
 use Rattle.tile.proofs.Places.{small}
-use Rattle.field.proofs.Samples.{left-in, right-in, above-in, below-in}
+use Rattle.tile.proofs.Samples.{left-in, right-in, above-in, below-in}
 use Rattle.field.specs.Code.{cellIn}
 use Rattle.field.specs.Field.{addedIf, around}
 use Rattle.field.proofs.around_at.Statement.{statement}

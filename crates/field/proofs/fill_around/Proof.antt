@@ -11,7 +11,8 @@ use Rattle.tile.specs.Owner.{ownBlock}
 use Rattle.tile.specs.Sound.{InTile}
 use Rattle.tile.proofs.Places.{at-low, col-low, small}
 use Rattle.tile.proofs.Owner.{mine-in}
-use Rattle.field.proofs.Samples.{Lists, lists, still-held, left-in, right-in, above-in, below-in}
+use Rattle.tile.proofs.Samples.{left-in, right-in, above-in, below-in}
+use Rattle.field.proofs.Lists.{Lists, lists, still-held}
 use Rattle.field.proofs.Ways.{cellOf, around-off, around-on}
 use Rattle.field.proofs.fill_around.Statement.{statement}
 use Rattle.field.proofs.fill_around.Tie as tie

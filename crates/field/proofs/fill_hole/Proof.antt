@@ -11,7 +11,7 @@ use Rattle.tile.specs.Layout.{rowCells}
 use Rattle.tile.specs.Owner.{ownBlock}
 use Rattle.tile.proofs.Places.{at-low, col-low}
 use Rattle.tile.proofs.Owner.{mine-in}
-use Rattle.field.proofs.Samples.{Lists, lists}
+use Rattle.field.proofs.Lists.{Lists, lists}
 use Rattle.field.proofs.Ways.{cellOf, hole-none, hole-off, hole-on}
 use Rattle.field.proofs.fill_hole.Statement.{statement}
 use Rattle.field.proofs.fill_hole.Tie as tie

@@ -6,7 +6,8 @@ use native.Mathlib.Omega.{arith}
 use Rattle.mv.specs.Sums.{isEmpty}
 use Rattle.tile.specs.Layout.{rowCells}
 use Rattle.tile.proofs.Places.{at-low, col-low, small}
-use Rattle.field.proofs.Samples.{Lists, lists, right-two, below-two, both-two, gaps-of}
+use Rattle.tile.proofs.Samples.{right-two, below-two, both-two, gaps-of}
+use Rattle.field.proofs.Lists.{Lists, lists}
 use Rattle.field.proofs.Ways.{cellOf, gap-off, gap-on}
 use Rattle.field.proofs.gap_proj.Statement.{statement}
 use Rattle.field.proofs.gap_proj.Tie as tie

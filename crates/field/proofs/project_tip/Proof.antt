@@ -14,7 +14,7 @@ use Rattle.tile.specs.Layout.{rowCells}
 use Rattle.tile.specs.Owner.{ownBlock}
 use Rattle.tile.proofs.Places.{at-low, col-low}
 use Rattle.tile.proofs.Owner.{mine-in}
-use Rattle.field.proofs.Samples.{Lists, lists}
+use Rattle.field.proofs.Lists.{Lists, lists}
 use Rattle.field.specs.Field.{projected}
 use Rattle.field.proofs.Ways.{cellOf, tip-off, tip-on}
 use Rattle.field.proofs.project_tip.Statement.{statement}

@@ -4,7 +4,7 @@ use Prim.Native.Nat.{_+_}
 use native.Mathlib.Omega.{arith}
 use Rattle.tile.proofs.Places.{at-low}
 use Rattle.tile.proofs.Owner.{mine-low}
-use Rattle.field.proofs.Samples.{Lists, lists}
+use Rattle.field.proofs.Lists.{Lists, lists}
 use Rattle.field.proofs.Ways.{gaps-on}
 use Rattle.field.proofs.put_gaps_proj.Statement.{statement}
 use Rattle.field.proofs.put_gaps_proj.Tie as tie

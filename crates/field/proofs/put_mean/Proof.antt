@@ -11,7 +11,7 @@ use Rattle.intops.proofs.Signed.{back}
 use Rattle.levels.specs.declared.Mv.{Mv}
 use Rattle.store.specs.Store.{vec}
 use Rattle.tile.proofs.Places.{at-low, col-low}
-use Rattle.field.proofs.Samples.{Lists, lists}
+use Rattle.field.proofs.Lists.{Lists, lists}
 use Rattle.field.proofs.Ways.{Set}
 use Rattle.field.proofs.put_mean.Statement.{statement}
 use Rattle.field.proofs.put_mean.Tie as tie

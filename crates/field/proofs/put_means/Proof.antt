@@ -5,7 +5,7 @@ use mir.Syntax.{w8}
 use mir.Val.{toZ}
 use Rattle.intops.proofs.Signed.{back}
 use Rattle.tile.specs.Sound.{InTile}
-use Rattle.field.proofs.Samples.{lists, like-trans, still-held}
+use Rattle.field.proofs.Lists.{lists, like-trans, still-held}
 use Rattle.field.proofs.Blocks.{few-rows, few-cols, block-sample, AtCol, AtRow, row-holds, col-holds, col-again, row-again, rows-done}
 use Rattle.field.proofs.put_means.Statement.{statement}
 use Rattle.field.proofs.put_means.Tie as tie

@@ -5,7 +5,7 @@ use native.Mathlib.Omega.{arith}
 use Rattle.intops.proofs.Signed.{back}
 use Rattle.tile.proofs.Places.{small}
 use Rattle.field.specs.Code.{InBlock}
-use Rattle.field.proofs.Samples.{lists}
+use Rattle.field.proofs.Lists.{lists}
 use Rattle.field.proofs.Blocks.{block-on}
 use Rattle.field.proofs.smooth_block.Statement.{statement}
 use Rattle.field.proofs.smooth_block.Tie as tie

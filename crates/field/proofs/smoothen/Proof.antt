@@ -6,7 +6,7 @@ use mir.Syntax.{w8}
 use mir.Val.{toZ}
 use Rattle.intops.proofs.Signed.{back}
 use Rattle.tile.proofs.Places.{small}
-use Rattle.field.proofs.Samples.{lists, like-trans, still-held}
+use Rattle.field.proofs.Lists.{lists, like-trans, still-held}
 use Rattle.field.proofs.Blocks.{AtSquare, AtColumn, column-holds, square-holds, square-again, column-again, smoothen-done}
 use Rattle.field.proofs.smoothen.Statement.{statement}
 use Rattle.field.proofs.smoothen.Tie as tie

@@ -6,31 +6,32 @@ use mir.Syntax.{w8}
 use mir.Val.{toZ}
 use Rattle.intops.proofs.Signed.{back}
 use Rattle.tile.proofs.Places.{small}
-use Rattle.field.proofs.Samples.{lists, like-trans, still-held, AtX, AtY, AtBlock, block-holds, y-holds, x-holds, x-again, y-again, block-again, all-done, sample-at}
+use Rattle.tile.proofs.Samples.{AtX, AtY, AtBlock, block-holds, y-holds, x-holds, x-again, y-again, block-again, all-done, sample-at}
+use Rattle.field.proofs.Lists.{lists, like-trans, still-held, lent}
 use Rattle.field.specs.Field.{projectTip, tipProjection}
 use Rattle.field.proofs.tip_projection.Statement.{statement}
 use Rattle.field.proofs.tip_projection.Tie as tie
 
 abbrev Inv-loop3 : tie.InvT-loop3
-Inv-loop3 field-y₀ field-x₀ field-ref₀ table t delta sx xend y x₀ field-y field-x field-ref x = AtX t (λ sx xend y x. projectTip t (toZ w8 delta) y x) sx xend y x (lists field-y field-x field-ref) (lists field-y₀ field-x₀ field-ref₀)
+Inv-loop3 field-y₀ field-x₀ field-ref₀ table t delta sx xend y x₀ field-y field-x field-ref x = AtX lent t (λ sx xend y x. projectTip t (toZ w8 delta) y x) sx xend y x (lists field-y field-x field-ref) (lists field-y₀ field-x₀ field-ref₀)
 
 abbrev μ-loop3 : tie.MeasureT-loop3
 μ-loop3 field-y₀ field-x₀ field-ref₀ table t delta sx xend y x₀ field-y field-x field-ref x = xend - x
 
 abbrev Inv-loop2 : tie.InvT-loop2
-Inv-loop2 field-y₀ field-x₀ field-ref₀ table t delta sx xend y₀ field-y field-x field-ref y = AtY t (λ sx xend y x. projectTip t (toZ w8 delta) y x) sx xend y (lists field-y field-x field-ref) (lists field-y₀ field-x₀ field-ref₀)
+Inv-loop2 field-y₀ field-x₀ field-ref₀ table t delta sx xend y₀ field-y field-x field-ref y = AtY lent t (λ sx xend y x. projectTip t (toZ w8 delta) y x) sx xend y (lists field-y field-x field-ref) (lists field-y₀ field-x₀ field-ref₀)
 
 abbrev μ-loop2 : tie.MeasureT-loop2
 μ-loop2 field-y₀ field-x₀ field-ref₀ table t delta sx xend y₀ field-y field-x field-ref y = t .bottom - y
 
 abbrev Inv-loop : tie.InvT-loop
-Inv-loop field-y₀ field-x₀ field-ref₀ table t delta sx₀ field-y field-x field-ref sx = AtBlock t (λ sx xend y x. projectTip t (toZ w8 delta) y x) sx (lists field-y field-x field-ref) (lists field-y₀ field-x₀ field-ref₀)
+Inv-loop field-y₀ field-x₀ field-ref₀ table t delta sx₀ field-y field-x field-ref sx = AtBlock lent t (λ sx xend y x. projectTip t (toZ w8 delta) y x) sx (lists field-y field-x field-ref) (lists field-y₀ field-x₀ field-ref₀)
 
 abbrev μ-loop : tie.MeasureT-loop
 μ-loop field-y₀ field-x₀ field-ref₀ table t delta sx₀ field-y field-x field-ref sx = t .right - sx
 
 loop-holds : tie.Need-loop-holds Inv-loop3 μ-loop3 Inv-loop2 μ-loop2 Inv-loop μ-loop
-loop-holds c = block-holds (c .before .args .t) _ (c .before .pre .0) _
+loop-holds c = block-holds lent (c .before .args .t) _ (c .before .pre .0) _
 
 add-least : tie.Need-add-least Inv-loop3 μ-loop3 Inv-loop2 μ-loop2 Inv-loop μ-loop
 add-least c = let k = c .before .before .before .before .before .pre .0 in omega (arith, c .before .if1 .taken, k .right, k .wide, k .strideLow, small (c .before .before .before .before .before .args .t) (c .before .before .before .before .before .pre .0))
@@ -39,15 +40,15 @@ least-requires : tie.Need-least-requires Inv-loop3 μ-loop3 Inv-loop2 μ-loop2 I
 least-requires c κs = search needs
 
 loop2-holds : tie.Need-loop2-holds Inv-loop3 μ-loop3 Inv-loop2 μ-loop2 Inv-loop μ-loop
-loop2-holds c = y-holds (c .before .before .before .before .before .before .args .t) _ (c .before .before .before .before .before .before .pre .0) (c .before .before .before .before .loop .sx) _ _
+loop2-holds c = y-holds lent (c .before .before .before .before .before .before .args .t) _ (c .before .before .before .before .before .before .pre .0) (c .before .before .before .before .loop .sx) _ _
 
 loop3-holds : tie.Need-loop3-holds Inv-loop3 μ-loop3 Inv-loop2 μ-loop2 Inv-loop μ-loop
-loop3-holds c = x-holds (c .before .before .before .before .before .before .before .before .before .args .t) _ (c .before .before .before .before .before .before .before .before .before .pre .0) (c .before .before .before .before .before .before .before .loop .sx) _ _ _ _ (c .before .before .before .before .before .before .before .loop .inv) _
+loop3-holds c = x-holds lent (c .before .before .before .before .before .before .before .before .before .args .t) _ (c .before .before .before .before .before .before .before .before .before .pre .0) (c .before .before .before .before .before .before .before .loop .sx) _ _ _ _ (c .before .before .before .before .before .before .before .loop .inv) _
 
 project-tip-requires : tie.Need-project-tip-requires Inv-loop3 μ-loop3 Inv-loop2 μ-loop2 Inv-loop μ-loop
 project-tip-requires c κs =
     let s = c .before .before .before .before .before .before .before .before .before .before .before .before .before .before in let t = s .args .t in let l = c .before .before .before .before .loop3 in
-    (s .pre .0, (sample-at t _ (s .pre .0) (c .before .before .before .before .before .before .before .before .before .before .before .before .loop .sx) _ (c .before .before .before .before .before .before .before .loop2 .y) (l .x) _ _ _ _ _ (c .before .before .before .before .before .before .before .before .before .before .before .before .loop .inv) (c .before .before .before .before .before .before .before .loop2 .inv) (l .inv) (c .before .before .before .before .before .before .before .before .least .ensures) (c .before .before .before .before .before .if2 .taken) (c .before .before .before .loop3-test .taken)) .cell, still-held t _ _ (like-trans (l .inv .like) (like-trans (c .before .before .before .before .before .before .before .loop2 .inv .like) (c .before .before .before .before .before .before .before .before .before .before .before .before .loop .inv .like))) (s .pre .1), s .pre .2)
+    (s .pre .0, (sample-at lent t _ (s .pre .0) (c .before .before .before .before .before .before .before .before .before .before .before .before .loop .sx) _ (c .before .before .before .before .before .before .before .loop2 .y) (l .x) _ _ _ _ _ (c .before .before .before .before .before .before .before .before .before .before .before .before .loop .inv) (c .before .before .before .before .before .before .before .loop2 .inv) (l .inv) (c .before .before .before .before .before .before .before .before .least .ensures) (c .before .before .before .before .before .if2 .taken) (c .before .before .before .loop3-test .taken)) .cell, still-held t _ _ (like-trans (l .inv .like) (like-trans (c .before .before .before .before .before .before .before .loop2 .inv .like) (c .before .before .before .before .before .before .before .before .before .before .before .before .loop .inv .like))) (s .pre .1), s .pre .2)
 
 add-x : tie.Need-add-x Inv-loop3 μ-loop3 Inv-loop2 μ-loop2 Inv-loop μ-loop
 add-x c = let k = c .before .before .before .before .before .before .before .before .before .before .before .before .before .before .before .before .before .before .before .before .pre .0 in omega (arith, c .before .before .before .before .before .before .before .before .before .loop3-test .taken, c .before .before .before .before .before .before .before .before .before .before .before .before .before .before .least .ensures, k .right, k .wide, k .strideLow, small (c .before .before .before .before .before .before .before .before .before .before .before .before .before .before .before .before .before .before .before .before .args .t) (c .before .before .before .before .before .before .before .before .before .before .before .before .before .before .before .before .before .before .before .before .pre .0))
@@ -58,7 +59,7 @@ loop3-less c = omega (arith, c .before .before .before .before .before .before .
 loop3-again : tie.Need-loop3-again Inv-loop3 μ-loop3 Inv-loop2 μ-loop2 Inv-loop μ-loop
 loop3-again c =
     let k = c .before .before .before .before .before .project-tip in let l = c .before .before .before .before .before .before .before .before .before .before .loop3 in
-    x-again (c .before .before .before .before .before .before .before .before .before .before .before .before .before .before .before .before .before .before .before .before .args .t) _ (c .before .before .before .before .before .before .before .before .before .before .before .before .before .before .before .before .before .before .before .before .pre .0) (c .before .before .before .before .before .before .before .before .before .before .before .before .before .before .before .before .before .before .loop .sx) _ (c .before .before .before .before .before .before .before .before .before .before .before .before .before .loop2 .y) (l .x) _ _ _ (c .before .before .before .before .before .before .before .before .before .loop3-test .taken) (l .inv)
+    x-again lent (c .before .before .before .before .before .before .before .before .before .before .before .before .before .before .before .before .before .before .before .before .args .t) _ (c .before .before .before .before .before .before .before .before .before .before .before .before .before .before .before .before .before .before .before .before .pre .0) (c .before .before .before .before .before .before .before .before .before .before .before .before .before .before .before .before .before .before .loop .sx) _ (c .before .before .before .before .before .before .before .before .before .before .before .before .before .loop2 .y) (l .x) _ _ _ (c .before .before .before .before .before .before .before .before .before .loop3-test .taken) (l .inv)
     (record { y = k .kept .0; x = k .kept .1 .0; ref = k .kept .1 .1 .0 }) (k .ensures)
 
 add-y : tie.Need-add-y Inv-loop3 μ-loop3 Inv-loop2 μ-loop2 Inv-loop μ-loop
@@ -68,7 +69,7 @@ loop2-less : tie.Need-loop2-less Inv-loop3 μ-loop3 Inv-loop2 μ-loop2 Inv-loop 
 loop2-less c = omega (arith, c .before .before .before .if2 .taken, small (c .before .before .before .before .before .before .before .before .before .before .before .before .args .t) (c .before .before .before .before .before .before .before .before .before .before .before .before .pre .0))
 
 loop2-again : tie.Need-loop2-again Inv-loop3 μ-loop3 Inv-loop2 μ-loop2 Inv-loop μ-loop
-loop2-again c = y-again (c .before .before .before .before .before .before .before .before .before .before .before .before .args .t) _ (c .before .before .before .before .before .before .before .before .before .before .before .before .pre .0) (c .before .before .before .before .before .before .before .before .before .before .loop .sx) _ (c .before .before .before .before .before .loop2 .y) _ _ _ _ (c .before .before .before .if2 .taken) (c .before .loop3-test .left) (c .before .before .before .before .before .loop2 .inv) (c .before .before .loop3 .inv)
+loop2-again c = y-again lent (c .before .before .before .before .before .before .before .before .before .before .before .before .args .t) _ (c .before .before .before .before .before .before .before .before .before .before .before .before .pre .0) (c .before .before .before .before .before .before .before .before .before .before .loop .sx) _ (c .before .before .before .before .before .loop2 .y) _ _ _ _ (c .before .before .before .if2 .taken) (c .before .loop3-test .left) (c .before .before .before .before .before .loop2 .inv) (c .before .before .loop3 .inv)
 
 add-sx : tie.Need-add-sx Inv-loop3 μ-loop3 Inv-loop2 μ-loop2 Inv-loop μ-loop
 add-sx c = let k = c .before .before .before .before .before .before .before .before .before .before .pre .0 in omega (arith, c .before .before .before .before .before .before .if1 .taken, k .right, k .wide, k .strideLow, small (c .before .before .before .before .before .before .before .before .before .before .args .t) (c .before .before .before .before .before .before .before .before .before .before .pre .0))
@@ -77,7 +78,7 @@ loop-less : tie.Need-loop-less Inv-loop3 μ-loop3 Inv-loop2 μ-loop2 Inv-loop μ
 loop-less c = omega (arith, c .before .before .before .before .before .before .if1 .taken, small (c .before .before .before .before .before .before .before .before .before .before .args .t) (c .before .before .before .before .before .before .before .before .before .before .pre .0))
 
 loop-again : tie.Need-loop-again Inv-loop3 μ-loop3 Inv-loop2 μ-loop2 Inv-loop μ-loop
-loop-again c = block-again (c .before .before .before .before .before .before .before .before .before .before .args .t) _ (c .before .before .before .before .before .before .before .before .before .before .pre .0) (c .before .before .before .before .before .before .before .before .loop .sx) _ (c .before .before .before .loop2 .y) _ _ _ (c .before .before .before .before .before .before .if1 .taken) (c .before .before .before .before .least .ensures) (c .before .if2 .left) (c .before .before .before .before .before .before .before .before .loop .inv) (c .before .before .before .loop2 .inv)
+loop-again c = block-again lent (c .before .before .before .before .before .before .before .before .before .before .args .t) _ (c .before .before .before .before .before .before .before .before .before .before .pre .0) (c .before .before .before .before .before .before .before .before .loop .sx) _ (c .before .before .before .loop2 .y) _ _ _ (c .before .before .before .before .before .before .if1 .taken) (c .before .before .before .before .least .ensures) (c .before .if2 .left) (c .before .before .before .before .before .before .before .before .loop .inv) (c .before .before .before .loop2 .inv)
 
 same-length : tie.Need-same-length Inv-loop3 μ-loop3 Inv-loop2 μ-loop2 Inv-loop μ-loop
 same-length c = c .before .before .loop .inv .like .y
@@ -90,7 +91,7 @@ same-length-3 c = c .before .before .loop .inv .like .ref
 
 returns : tie.Need-returns Inv-loop3 μ-loop3 Inv-loop2 μ-loop2 Inv-loop μ-loop
 unfolding tipProjection
-returns c = let f = c .before .before .before .before .fits .delta in simp back at (all-done (c .before .before .before .before .args .t) _ (c .before .before .before .before .pre .0) (c .before .before .loop .sx) _ _ (c .if1 .left) (c .before .before .loop .inv))
+returns c = let f = c .before .before .before .before .fits .delta in simp back at (all-done lent (c .before .before .before .before .args .t) _ (c .before .before .before .before .pre .0) (c .before .before .loop .sx) _ _ (c .if1 .left) (c .before .before .loop .inv))
 
 pub tip-projection-spec : {M : Type 1} → statement M
 tip-projection-spec =

@@ -1,9 +1,9 @@
--- `field::block_start` meets its contract. Assumes nothing.
+-- `tile::block_start` meets its contract. Assumes nothing.
 use borrow.Author.Needs.{needs}
 use Rattle.tile.specs.Layout.{blockStart}
 use Rattle.tile.proofs.Places.{block-else}
-use Rattle.field.proofs.block_start.Statement.{statement}
-use Rattle.field.proofs.block_start.Tie as tie
+use Rattle.tile.proofs.block_start.Statement.{statement}
+use Rattle.tile.proofs.block_start.Tie as tie
 
 mul-result : tie.Need-mul-result
 mul-result c = search needs

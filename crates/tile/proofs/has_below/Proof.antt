@@ -1,9 +1,9 @@
--- `field::has_below` meets its contract. Assumes nothing.
+-- `tile::has_below` meets its contract. Assumes nothing.
 use borrow.Author.Needs.{needs}
 use native.Mathlib.Omega.{arith}
 use Rattle.tile.proofs.Places.{small, start-low}
-use Rattle.field.proofs.has_below.Statement.{statement}
-use Rattle.field.proofs.has_below.Tie as tie
+use Rattle.tile.proofs.has_below.Statement.{statement}
+use Rattle.tile.proofs.has_below.Tie as tie
 
 block-start-requires : tie.Need-block-start-requires
 block-start-requires c κs = search needs

@@ -1,56 +1,26 @@
 -- The loops over a tile's sampled cells, as code runs them: what is left from where a loop is, on the lists as they are, is the whole of it on the lists where it began. Assumes nothing.
-use mathlib.Core.Path.{_≡_, refl, sym, ap, _∙_, subst}
+use mathlib.Core.Path.{_≡_, refl, _∙_, subst}
 use mathlib.Core.Bool.{true, _&&_}
-use mathlib.Core.List.{List}
-use Prim.Native.Nat.{ℕ, _+_, _-_, _*_, _%_, _≤_, _<_, min}
+use Prim.Native.Nat.{ℕ, _+_, _-_, _%_, _≤_, _<_, min}
 use native.Mathlib.Nat.{add-mod-right}
 use native.Mathlib.Omega.{arith}
 use borrow.Author.Tests.{leb-true, ltb-true}
-use lib.IntN.{ℤ}
-use lib.ListN.{length}
 use Rattle.intops.proofs.Tests.{and-both}
 use Rattle.loops.specs.Over.{spanBy}
 use Rattle.loops.proofs.Turns.{turnedBy, endedBy}
-use Rattle.store.specs.Store.{Store, withField}
+use Rattle.store.specs.Store.{Store}
 use Rattle.store.specs.Program.{Prog, run}
+use Rattle.store.proofs.Lent.{Lent}
 use Rattle.tile.specs.declared.Tile.{Tile}
 use Rattle.tile.specs.Owner.{owns}
 use Rattle.tile.specs.Layout.{blockStart}
 use Rattle.tile.specs.Passes.{eachSample, hasLeft, hasRight, hasAbove, hasBelow}
-use Rattle.tile.specs.Sound.{Sound, InTile, Sample, FieldHeld}
+use Rattle.tile.specs.Sound.{Sound, InTile, Sample, Gaps}
 use Rattle.tile.proofs.Owner.{mine-in}
 use Rattle.tile.proofs.Passes.{Sampled, mine-between}
-use Rattle.tile.proofs.Places.{sides, block-some, step-some, block-top}
-use Rattle.field.specs.Code.{Gaps}
+use Rattle.tile.proofs.Places.{sides, block-some, step-some, block-on-step, block-top}
 
--- the field's three lists
-pub record Lists : Type 0 where
-  pub y : List ℤ
-  pub x : List ℤ
-  pub ref : List ℕ
-
-abbrev pub lists : List ℤ → List ℤ → List ℕ → Lists
-lists y x r = record { y = y; x = x; ref = r }
-
-abbrev pub within : Store → Lists → Store
-within s l = withField s (l .y) (l .x) (l .ref)
-
--- of the same lengths
-pub record Like (l m : Lists) : Type 0 where
-  pub y : length (l .y) ≡ length (m .y)
-  pub x : length (l .x) ≡ length (m .x)
-  pub ref : length (l .ref) ≡ length (m .ref)
-
-pub like-refl : (l : Lists) → Like l l
-like-refl l = record { y = refl; x = refl; ref = refl }
-
-pub like-trans : {l m n : Lists} → Like l m → Like m n → Like l n
-like-trans p q = record { y = p .y ∙ q .y; x = p .x ∙ q .x; ref = p .ref ∙ q .ref }
-
-pub still-held : (t : Tile) (l m : Lists) → Like l m → FieldHeld t (m .y) (m .x) (m .ref) → FieldHeld t (l .y) (l .x) (l .ref)
-still-held t l m p h = record { y = omega (arith, p .y, h .y); x = omega (arith, p .x, h .x); ref = omega (arith, p .ref, h .ref) }
-
-module _ (t : Tile) (f : ℕ → ℕ → ℕ → ℕ → Prog) where
+module _ {L : Type 0} (K : Lent L) (t : Tile) (f : ℕ → ℕ → ℕ → ℕ → Prog) where
   -- a turn of the columns, of the rows, of the blocks
   abbrev pub xTurn : ℕ → ℕ → ℕ → ℕ → Store → Store
   xTurn sx xend y x s = run (owns t) (f sx xend y x) s
@@ -61,76 +31,73 @@ module _ (t : Tile) (f : ℕ → ℕ → ℕ → ℕ → Prog) where
   abbrev pub blockTurn : ℕ → Store → Store
   blockTurn sx s = spanBy (t .step) (yTurn sx (min (t .right) (sx + t .block))) (t .top) (t .bottom) s
 
-  pub record AtX (sx xend y x : ℕ) (l m : Lists) : Type 0 where
-    pub like : Like l m
+  pub record AtX (sx xend y x : ℕ) (l m : L) : Type 0 where
+    pub like : K .Like l m
     pub from : sx ≤ x
     pub on : x % t .step ≡ 0
-    pub left : (s : Store) → spanBy (t .step) (xTurn sx xend y) x xend (within s l) ≡ yTurn sx xend y (within s m)
+    pub left : (s : Store) → spanBy (t .step) (xTurn sx xend y) x xend (K .into s l) ≡ yTurn sx xend y (K .into s m)
 
-  pub record AtY (sx xend y : ℕ) (l m : Lists) : Type 0 where
-    pub like : Like l m
+  pub record AtY (sx xend y : ℕ) (l m : L) : Type 0 where
+    pub like : K .Like l m
     pub from : t .top ≤ y
     pub on : y % t .step ≡ 0
-    pub left : (s : Store) → spanBy (t .step) (yTurn sx xend) y (t .bottom) (within s l) ≡ spanBy (t .step) (yTurn sx xend) (t .top) (t .bottom) (within s m)
+    pub left : (s : Store) → spanBy (t .step) (yTurn sx xend) y (t .bottom) (K .into s l) ≡ spanBy (t .step) (yTurn sx xend) (t .top) (t .bottom) (K .into s m)
 
-  pub record AtBlock (sx : ℕ) (l m : Lists) : Type 0 where
-    pub like : Like l m
+  pub record AtBlock (sx : ℕ) (l m : L) : Type 0 where
+    pub like : K .Like l m
     pub from : t .left ≤ sx
     pub on : sx % t .block ≡ 0
-    pub left : (s : Store) → spanBy (t .block) blockTurn sx (t .right) (within s l) ≡ spanBy (t .block) blockTurn (t .left) (t .right) (within s m)
+    pub left : (s : Store) → spanBy (t .block) blockTurn sx (t .right) (K .into s l) ≡ spanBy (t .block) blockTurn (t .left) (t .right) (K .into s m)
 
   module _ (k : Sound t) where
-    on-step : (n : ℕ) → n % t .block ≡ 0 → n % t .step ≡ 0
-    on-step n = sides t k (λ B s. n % B ≡ 0 → n % s ≡ 0) (λ h. omega arith) (λ h. omega arith) (λ h. omega arith) (λ h. omega arith)
+    pub block-holds : (l : L) → AtBlock (t .left) l l
+    block-holds l = record { like = K .like-refl l; from = omega arith; on = k .start; left = λ s. refl }
 
-    pub block-holds : (l : Lists) → AtBlock (t .left) l l
-    block-holds l = record { like = like-refl l; from = omega arith; on = k .start; left = λ s. refl }
+    pub y-holds : (sx xend : ℕ) (l : L) → AtY sx xend (t .top) l l
+    y-holds sx xend l = record { like = K .like-refl l; from = omega arith; on = block-on-step t k (t .top) (k .topOnBlock); left = λ s. refl }
 
-    pub y-holds : (sx xend : ℕ) (l : Lists) → AtY sx xend (t .top) l l
-    y-holds sx xend l = record { like = like-refl l; from = omega arith; on = on-step (t .top) (k .topOnBlock); left = λ s. refl }
+    pub x-holds : (sx xend y : ℕ) (l m : L) → AtBlock sx l m → (n : L) → AtX sx xend y sx n n
+    x-holds sx xend y l m b n = record { like = K .like-refl n; from = omega arith; on = block-on-step t k sx (b .on); left = λ s. refl }
 
-    pub x-holds : (sx xend y : ℕ) (l m : Lists) → AtBlock sx l m → (n : Lists) → AtX sx xend y sx n n
-    x-holds sx xend y l m b n = record { like = like-refl n; from = omega arith; on = on-step sx (b .on); left = λ s. refl }
-
-    pub x-again : (sx xend y x : ℕ) (l m n : Lists) → x < xend → AtX sx xend y x l m → Like n l
-        → ((s : Store) → within s n ≡ run (owns t) (f sx xend y x) (within s l)) → AtX sx xend y (x + t .step) n m
+    pub x-again : (sx xend y x : ℕ) (l m n : L) → x < xend → AtX sx xend y x l m → K .Like n l
+        → ((s : Store) → K .into s n ≡ run (owns t) (f sx xend y x) (K .into s l)) → AtX sx xend y (x + t .step) n m
     x-again sx xend y x l m n h a p e =
         record {
-          like = like-trans p (a .like);
+          like = K .like-trans n l m p (a .like);
           from = omega (arith, a .from);
           on = add-mod-right x (t .step) ∙ a .on;
-          left = λ s. turnedBy (xTurn sx xend y) (t .step) xend x (within s l) (within s n) _ (step-some t k) h (e s) (a .left s);
+          left = λ s. turnedBy (xTurn sx xend y) (t .step) xend x (K .into s l) (K .into s n) _ (step-some t k) h (e s) (a .left s);
         }
 
-    pub y-again : (sx xend y x : ℕ) (l m n : Lists) → y < t .bottom → xend ≤ x → AtY sx xend y l m → AtX sx xend y x n l → AtY sx xend (y + t .step) n m
+    pub y-again : (sx xend y x : ℕ) (l m n : L) → y < t .bottom → xend ≤ x → AtY sx xend y l m → AtX sx xend y x n l → AtY sx xend (y + t .step) n m
     y-again sx xend y x l m n h e a b =
         record {
-          like = like-trans (b .like) (a .like);
+          like = K .like-trans n l m (b .like) (a .like);
           from = omega (arith, a .from);
           on = add-mod-right y (t .step) ∙ a .on;
           left = λ s.
-              turnedBy (yTurn sx xend) (t .step) (t .bottom) y (within s l) (within s n) _ (step-some t k) h
-              (endedBy (xTurn sx xend y) (t .step) xend x (within s n) _ (step-some t k) e (b .left s)) (a .left s);
+              turnedBy (yTurn sx xend) (t .step) (t .bottom) y (K .into s l) (K .into s n) _ (step-some t k) h
+              (endedBy (xTurn sx xend y) (t .step) xend x (K .into s n) _ (step-some t k) e (b .left s)) (a .left s);
         }
 
-    pub block-again : (sx xend y : ℕ) (l m n : Lists) → sx < t .right → xend ≡ min (t .right) (sx + t .block) → t .bottom ≤ y → AtBlock sx l m → AtY sx xend y n l
+    pub block-again : (sx xend y : ℕ) (l m n : L) → sx < t .right → xend ≡ min (t .right) (sx + t .block) → t .bottom ≤ y → AtBlock sx l m → AtY sx xend y n l
         → AtBlock (sx + t .block) n m
     block-again sx xend y l m n h e g a b =
         record {
-          like = like-trans (b .like) (a .like);
+          like = K .like-trans n l m (b .like) (a .like);
           from = omega (arith, a .from);
           on = add-mod-right sx (t .block) ∙ a .on;
           left = λ s.
-              turnedBy blockTurn (t .block) (t .right) sx (within s l) (within s n) _ (block-some t k) h
-              (endedBy (yTurn sx (min (t .right) (sx + t .block))) (t .step) (t .bottom) y (within s n) _ (step-some t k) g (rw e at (b .left s))) (a .left s);
+              turnedBy blockTurn (t .block) (t .right) sx (K .into s l) (K .into s n) _ (block-some t k) h
+              (endedBy (yTurn sx (min (t .right) (sx + t .block))) (t .step) (t .bottom) y (K .into s n) _ (step-some t k) g (rw e at (b .left s))) (a .left s);
         }
 
-    pub all-done : (sx : ℕ) (l m : Lists) → t .right ≤ sx → AtBlock sx l m → (s : Store) → within s l ≡ run (owns t) (eachSample t f) (within s m)
+    pub all-done : (sx : ℕ) (l m : L) → t .right ≤ sx → AtBlock sx l m → (s : Store) → K .into s l ≡ run (owns t) (eachSample t f) (K .into s m)
     unfolding spanBy
-    all-done sx l m h a s = endedBy blockTurn (t .block) (t .right) sx (within s l) _ (block-some t k) h (a .left s)
+    all-done sx l m h a s = endedBy blockTurn (t .block) (t .right) sx (K .into s l) _ (block-some t k) h (a .left s)
 
     -- where the loops are is a sampled cell
-    pub sample-at : (sx xend y x : ℕ) (l m n o p : Lists) → AtBlock sx l m → AtY sx xend y n l → AtX sx xend y x o p
+    pub sample-at : (sx xend y x : ℕ) (l m n o p : L) → AtBlock sx l m → AtY sx xend y n l → AtX sx xend y x o p
         → xend ≡ min (t .right) (sx + t .block) → y < t .bottom → x < xend → Sample t sx xend y x
     sample-at sx xend y x l m n o p b a c e g h =
         record {

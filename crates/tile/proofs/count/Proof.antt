@@ -1,9 +1,9 @@
--- `field::count` meets its contract. Assumes nothing.
+-- `tile::count` meets its contract. Assumes nothing.
 use borrow.Author.Needs.{needs}
 use native.Mathlib.Omega.{arith}
 use Rattle.tile.proofs.Places.{step-else}
-use Rattle.field.proofs.count.Statement.{statement}
-use Rattle.field.proofs.count.Tie as tie
+use Rattle.tile.proofs.count.Statement.{statement}
+use Rattle.tile.proofs.count.Tie as tie
 
 sub-result : tie.Need-sub-result
 sub-result c = search needs

@@ -1,11 +1,11 @@
--- `field::field_at` meets its contract. Assumes nothing.
+-- `tile::field_at` meets its contract. Assumes nothing.
 use borrow.Author.Needs.{needs}
 use Prim.Native.Nat.{_+_, _-_, _*_, _≤_, _<_}
 use native.Mathlib.Omega.{arith}
 use Rattle.tile.specs.Layout.{rowCells}
 use Rattle.tile.proofs.Places.{field-is, row-in, cells-low}
-use Rattle.field.proofs.field_at.Statement.{statement}
-use Rattle.field.proofs.field_at.Tie as tie
+use Rattle.tile.proofs.field_at.Statement.{statement}
+use Rattle.tile.proofs.field_at.Tie as tie
 
 low : (s : tie.Start) → let a = s .args in ((a .y - a .t .top) * a .t .stride + a .x < rowCells (a .t)) × (a .t .offset + rowCells (a .t) ≤ 67371008)
 low s = let a = s .args in (row-in (a .t) (s .pre .0) (a .y) (a .x) (s .pre .1) (s .pre .2) (s .pre .3), cells-low (a .t) (s .pre .0))
