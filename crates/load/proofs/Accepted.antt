@@ -7,34 +7,16 @@ use native.Mathlib.Nat.{mul-mod-left, mul-le-mul}
 use native.Mathlib.Omega.{arith}
 use borrow.Author.Tests.{leb-true, ltb-true, ltb-false, eqb-true, eqb-false}
 use lib.Dec.{eqb, leb, ltb}
-use lib.IntN.{ℤ}
 use lib.ListN.{getD}
-use lib.Signed.{ltZ}
 use Rattle.intops.proofs.Tests.{and-both, not-false}
 use Rattle.frame.specs.declared.Frame.{Frame}
 use Rattle.frame.specs.Frame.{noSource, badSize}
 use Rattle.store.specs.Store.{Store}
 use Rattle.tile.specs.Sound.{Sound}
 use Rattle.load.specs.Load.{Call, sideOf, blockOf, edgeOf, wideOf, highOf, strideOf, tileOf}
-use Rattle.load.specs.Calls.{allBelow, within, sourceInRange, setupInRange, tileFits, longEnough, contentsFine, answer}
-
--- what holds of each number below n
-pub all-below : (n : ℕ) (p : ℕ → Bool) → allBelow n p ≡ true → (i : ℕ) → i < n → p i ≡ true
-unfolding allBelow
-all-below zero p h i l = absurd (omega arith)
-all-below (suc n) p h i l = go (eqb i n) refl (all-below n p (b .0) i)
-  where
-    b : (allBelow n p ≡ true) × (p n ≡ true)
-    b = and-both (allBelow n p) (p n) h
-
-    go : (e : Bool) → eqb i n ≡ e → (i < n → p i ≡ true) → p i ≡ true
-    go true e below = rw (eqb-true i n e) (b .1)
-    go false e below = let d : i ≡ n → ⊥ = eqb-false i n e in below (omega arith)
-
-pub within-bounds : (a b z : ℤ) → within a b z ≡ true → (ltZ z a ≡ false) × (ltZ b z ≡ false)
-within-bounds a b z h =
-    let w = and-both (not (ltZ z a)) (not (ltZ b z)) h in
-    (not-false (ltZ z a) (w .0), not-false (ltZ b z) (w .1))
+use Rattle.project.specs.Tested.{allBelow, sourceInRange}
+use Rattle.project.proofs.Tested.{all-below}
+use Rattle.load.specs.Calls.{setupInRange, tileFits, longEnough, contentsFine, answer}
 
 -- the four tests of a call that is accepted on s
 pub record Passed (c : Call) (s : Store) : Type 0 where
@@ -63,6 +45,7 @@ pub record InRange (f : Frame) : Type 0 where
   pub stepHigh : f .«tmvp_sample_step» ≤ 2
   pub width : f .width ≤ 65536
   pub height : f .height ≤ 65536
+  pub few : f .sources .«n_mfmvs» ≤ 4
   pub sources : (n : ℕ) → n < f .sources .«n_mfmvs» → sourceInRange (getD (f .sources .mfmv) n noSource) ≡ true
 
 size-low : (n : ℕ) → not (badSize n) ≡ true → n ≤ 65536
@@ -99,6 +82,7 @@ in-range f h =
       stepHigh = leb-true (f .«tmvp_sample_step») 2 (e4 .1);
       width = size-low (f .width) (e5 .1);
       height = size-low (f .height) (e6 .1);
+      few = leb-true (f .sources .«n_mfmvs») 4 (e7 .1);
       sources = all-below (f .sources .«n_mfmvs») (λ n. sourceInRange (getD (f .sources .mfmv) n noSource)) (e8 .1);
     }
 
@@ -122,13 +106,13 @@ row-end a b H S l z h = go (eqb b (a + S)) refl h
         let p : H ≤ b = leb-true H b (w .0) in let q : b ≤ a + S = leb-true b (a + S) (w .1) in
         (omega arith, omega arith)
 
-side-some : (f : Frame) → 0 < sideOf f
-side-some f = go (eqb (f .sb128) 0) (eqb (f .sb128) 1)
+pub side-low : (f : Frame) → (8 ≤ sideOf f) × (sideOf f ≤ 32)
+side-low f = go (eqb (f .sb128) 0) (eqb (f .sb128) 1)
   where
-    go : (p q : Bool) → 0 < cond p 8 (cond q 16 32)
-    go true q = omega arith
-    go false true = omega arith
-    go false false = omega arith
+    go : (p q : Bool) → (8 ≤ cond p 8 (cond q 16 32)) × (cond p 8 (cond q 16 32) ≤ 32)
+    go true q = (omega arith, omega arith)
+    go false true = (omega arith, omega arith)
+    go false false = (omega arith, omega arith)
 
 pub columns : (c : Call) → tileFits c ≡ true → Columns c
 unfolding tileFits
@@ -148,7 +132,7 @@ columns c h =
     let e4 = and-both (t1 && t2 && t3) t4 (e5 .0) in
     let e3 = and-both (t1 && t2) t3 (e4 .0) in
     let e2 = and-both t1 t2 (e3 .0) in
-    let r = row-end (c .rowStart) (c .rowEnd) H S (ltb-true (c .rowStart) H (e6 .1)) (side-some (c .setup)) (e7 .1) in
+    let r = row-end (c .rowStart) (c .rowEnd) H S (ltb-true (c .rowStart) H (e6 .1)) (omega (arith, side-low (c .setup))) (e7 .1) in
     record {
       some = ltb-true (c .colStart) (c .colEnd) (e2 .0);
       wide = leb-true (c .colEnd) W (e2 .1);
@@ -159,7 +143,7 @@ columns c h =
     }
 
 -- S and B by the code and the step
-sizes : (P : ℕ → ℕ → ℕ → Type 0) (f : Frame) → InRange f → P 8 8 1 → P 8 8 2 → P 16 8 1 → P 16 16 2 → P 32 8 1 → P 32 16 2
+pub sizes : (P : ℕ → ℕ → ℕ → Type 0) (f : Frame) → InRange f → P 8 8 1 → P 8 8 2 → P 16 8 1 → P 16 16 2 → P 32 8 1 → P 32 16 2
     → P (sideOf f) (blockOf f) (f .«tmvp_sample_step»)
 sizes P f r a b c d e g = go (eqb (f .sb128) 0) (eqb (f .sb128) 1) (eqb (f .«tmvp_sample_step») 2) refl
   where
@@ -201,7 +185,8 @@ unfolding tileOf
 sound c r k =
     let f : Frame = c .setup in
     record {
-      side = sizes (λ S B s. 0 < S) f r (omega arith) (omega arith) (omega arith) (omega arith) (omega arith) (omega arith);
+      side = omega (arith, side-low f);
+      sideKind = sizes (λ S B s. (S ≡ 8) ⊎ ((S ≡ 16) ⊎ (S ≡ 32))) f r (inl refl) (inl refl) (inr (inl refl)) (inr (inl refl)) (inr (inr refl)) (inr (inr refl));
       block = sizes (λ S B s. (B ≡ 8) ⊎ (B ≡ 16)) f r (inl refl) (inl refl) (inl refl) (inr refl) (inl refl) (inr refl);
       step = sizes (λ S B s. (s ≡ 1) ⊎ (s ≡ 2)) f r (inl refl) (inr refl) (inl refl) (inr refl) (inl refl) (inr refl);
       few = sizes (λ S B s. B ≤ 8 * s) f r (omega arith) (omega arith) (omega arith) (omega arith) (omega arith) (omega arith);
@@ -219,7 +204,7 @@ sound c r k =
       rows = k .rows;
       bottom = k .bottom;
       frameEnd = omega arith;
-      sideLow = sizes (λ S B s. S ≤ 32) f r (omega arith) (omega arith) (omega arith) (omega arith) (omega arith) (omega arith);
+      sideLow = side-low f .1;
       strideLow = omega (arith, r .width);
       highLow = omega (arith, r .height);
       offsetLow = offset-low (c .wholeFrame) (c .rowStart) (strideOf f) (omega (arith, k .rows, r .height)) (omega (arith, r .width));

@@ -1,4 +1,5 @@
 pub mod Accepted
+pub mod Held
 pub mod Owned
 pub mod Setup
 pub mod Stays

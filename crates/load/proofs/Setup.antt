@@ -13,7 +13,8 @@ use Rattle.frame.specs.declared.Frame.{Frame}
 use Rattle.frame.specs.Frame.{noSource, badSize, SourceInRange}
 use Rattle.frame.specs.Theorems.{FrameInRange}
 use Rattle.frame.proofs.Theorems.{accepted-in-range}
-use Rattle.load.specs.Calls.{allBelow, within, entryInRange, sourceInRange, setupInRange}
+use Rattle.project.specs.Tested.{allBelow, within, entryInRange, sourceInRange}
+use Rattle.load.specs.Calls.{setupInRange}
 use Rattle.load.specs.Theorems.{SetupPasses}
 
 not-below : (a z : ℤ) → a ≤ℤ z → ltZ z a ≡ false

@@ -1,13 +1,12 @@
 -- An accepted load leaves every call's answer as it was. Assumes nothing.
 use mathlib.Core.Path.{_≡_, refl, sym, ap, _∙_}
-use mathlib.Core.Bool.{Bool, true, false, _&&_}
+use mathlib.Core.Bool.{Bool, true, false}
 use mathlib.Core.List.{List}
-use Prim.Native.Nat.{ℕ, zero, suc, _*_, _≤_, _<_}
+use Prim.Native.Nat.{ℕ, zero, suc, _*_, _<_}
 use native.Mathlib.Omega.{arith}
-use borrow.Author.Tests.{leb-true, ltb-true}
-use lib.Dec.{leb, ltb}
+use borrow.Author.Tests.{ltb-true}
+use lib.Dec.{ltb}
 use lib.IntN.{ℤ}
-use lib.ListN.{length}
 use Rattle.intops.proofs.Tests.{and-both}
 use Rattle.levels.specs.declared.Mv.{Mv}
 use Rattle.entry.specs.declared.Source.{Source}
@@ -19,29 +18,18 @@ use Rattle.tile.specs.Layout.{rowCells}
 use Rattle.tile.specs.Owner.{ownBlock, owns, blockNumber}
 use Rattle.field.proofs.Keeps.{keeps-copyAbove, keeps-emptyField, keeps-tipProjection, keeps-fillHoles, keeps-smoothen, keeps-fillGapProj}
 use Rattle.traj.specs.Traj.{trajInRange}
-use Rattle.traj.proofs.Range.{InRange, empty-in, clipped-in, keeps-emptyTrajs, keeps-enterEnd, keeps-checkTrajIntersect, keeps-fillGapTraj}
-use Rattle.load.specs.Project.{toSource, toReference, putTrajs, putMv, projectMv, sample, projectSource}
-use Rattle.load.specs.Load.{Call, highOf, strideOf, tileOf, projectSources, tipPasses, gapPasses, loadTmvs}
-use Rattle.load.specs.Calls.{allBelow, fieldCells, longEnough, sourceFine, trajsInRange, contentsFine, answer, load}
-use Rattle.load.proofs.Accepted.{all-below, Passed, passed}
+use Rattle.traj.proofs.Range.{InRange, empty-in, keeps-emptyTrajs, keeps-fillGapTraj}
+use Rattle.project.specs.Tested.{allBelow}
+use Rattle.project.proofs.Tested.{all-below}
+use Rattle.project.proofs.Keeps.{keeps-projectSource}
+use Rattle.load.specs.Load.{Call, tileOf, projectSources, tipPasses, gapPasses, loadTmvs}
+use Rattle.load.specs.Calls.{longEnough, sourceFine, trajsInRange, contentsFine, answer, load}
+use Rattle.load.proofs.Accepted.{Passed, passed}
+use Rattle.load.proofs.Held.{long}
 
 -- ---- each trajectory that a load writes is one that test 12 lets through
 
 module _ (t : Tile) where
-  keeps-putTrajs : (s : Source) (b : ℕ) (v : Mv) (y x y₁ x₁ : ℕ) → Keeps InRange (putTrajs t s b v y x y₁ x₁)
-  unfolding putTrajs
-  keeps-putTrajs s b v y x y₁ x₁ =
-      (clipped-in 2047 (toSource s b v) (omega arith), (tt, (λ e. (clipped-in 2047 (toReference s b v) (omega arith), keeps-enterEnd t _ y₁ x₁ y x v), λ e. tt)))
-
-  keeps-projectMv : (traj : Bool) (s : Source) (b : ℕ) (v : Mv) (y x : ℕ) → Keeps InRange (projectMv t traj s b v y x)
-  unfolding projectMv putMv
-  keeps-projectMv traj s b v y x = (λ e old was. (λ g. ((λ q. keeps-putTrajs s b v y x _ _, λ q. tt), (tt, tt)), λ g. tt), λ e. tt)
-
-  keeps-projectSource : (traj : Bool) (present : List Bool) (planes : List ℤ) (s : Source) → Keeps InRange (projectSource t traj present planes s)
-  unfolding projectSource sample
-  keeps-projectSource traj present planes s =
-      (λ e y x. (λ g. ((λ q. keeps-checkTrajIntersect t _ _ y x _, λ q. tt), keeps-projectMv traj s _ _ y x), λ g. tt), λ e. tt)
-
   keeps-load : (c : Call) → Keeps InRange (loadTmvs t c)
   unfolding loadTmvs projectSources tipPasses gapPasses
   keeps-load c = (
@@ -51,7 +39,7 @@ module _ (t : Tile) where
       (
         (λ e. keeps-emptyTrajs t, λ e. tt),
         (
-          λ n. keeps-projectSource (c .traj) (c .setup .«rp_ref») (c .planes) _,
+          λ n. keeps-projectSource t (c .traj) (c .setup .«rp_ref») (c .planes) _,
           (
             (λ e. (keeps-tipProjection InRange t _, (λ q. (keeps-fillHoles InRange t _, keeps-smoothen InRange t _), λ q. tt)), λ e. tt),
             (λ e. (λ n. keeps-fillGapTraj t n, keeps-fillGapProj InRange t), λ e. tt),
@@ -77,18 +65,6 @@ owned-low : (c : Call) (i : ℕ) → owns (tileOf c) trajs i ≡ true → i < 7 
 unfolding owns
 owned-low c i h = ltb-true i (7 * rowCells (tileOf c)) (and-both (ltb i (7 * rowCells (tileOf c))) (ownBlock (tileOf c) (blockNumber (tileOf c) i)) h .0)
 
-long-trajs : (c : Call) (s : Store) → longEnough c s ≡ true → (7 * rowCells (tileOf c) ≤ length (s .trajY)) × (7 * rowCells (tileOf c) ≤ length (s .trajX))
-unfolding longEnough
-long-trajs c s h =
-    let P : ℕ = rowCells (tileOf c) in
-    let t1 : Bool = leb (6 * (7 * (highOf (c .setup) * strideOf (c .setup)))) (length (c .planes)) && leb (fieldCells c) (length (s .fieldY)) && leb (fieldCells c) (length (s .fieldX)) && leb (fieldCells c) (length (s .fieldRef)) in
-    let t2 : Bool = leb (7 * P) (length (s .trajY)) in
-    let t3 : Bool = leb (7 * P) (length (s .trajX)) in
-    let e5 = and-both (t1 && t2 && t3 && leb (21 * P) (length (s .mapY))) (leb (21 * P) (length (s .mapX))) h in
-    let e4 = and-both (t1 && t2 && t3) (leb (21 * P) (length (s .mapY))) (e5 .0) in
-    let e3 = and-both (t1 && t2) t3 (e4 .0) in
-    (leb-true (7 * P) (length (s .trajY)) (and-both t1 t2 (e3 .0) .1), leb-true (7 * P) (length (s .trajX)) (e3 .1))
-
 module _ (c : Call) (s : Store) (h : Passed c s) where
   was : (i : ℕ) → owns (tileOf c) trajs i ≡ true → trajInRange (rd s trajs i) ≡ true
   unfolding contentsFine trajsInRange
@@ -100,7 +76,7 @@ module _ (c : Call) (s : Store) (h : Passed c s) where
   good : Good (owns (tileOf c)) InRange empty-in s
   good =
       record {
-        within = λ i o. let l = long-trajs c s (h .long) in (omega (arith, owned-low c i o, l .0), omega (arith, owned-low c i o, l .1));
+        within = λ i o. let l = long c s (h .long) in (omega (arith, owned-low c i o, l .trajY), omega (arith, owned-low c i o, l .trajX));
         good = was;
       }
 

@@ -1,4 +1,3 @@
-pub mod Project
 pub mod Load
 pub mod Calls
 pub mod Theorems

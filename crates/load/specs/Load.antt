@@ -11,7 +11,7 @@ use Rattle.store.specs.Program.{Prog, when, each, _>>_}
 use Rattle.tile.specs.declared.Tile.{Tile}
 use Rattle.field.specs.Field.{copyAbove, emptyField, tipProjection, fillHoles, smoothen, fillGapProj}
 use Rattle.traj.specs.Traj.{emptyTrajs, fillGapTraj}
-use Rattle.load.specs.Project.{projectSource}
+use Rattle.project.specs.Project.{projectSource}
 
 -- what a load is asked for: a setup, the mode (row or whole-frame, have_frame_threading), the switches (mv_traj, tip_hole_fill), the tile's columns and rows, the planes
 pub record Call : Type 0 where
