@@ -374,7 +374,7 @@ fn bad_step(n: u8) -> bool
     !((n == 1) | (n == 2))
 }
 
-fn bad_size(n: u32) -> bool
+pub fn bad_size(n: u32) -> bool
     ensures { λ r. ⌜ r ≡ badSize n ⌝ }
 {
     if n == 0 { true } else { 65536 < n }
