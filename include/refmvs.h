@@ -11,6 +11,10 @@
  *   6  sample step not 1 or 2
  *   7  width or height not 1..65536
  *   8  a TIP slot that is not a slot in use, where the setup looks at the TIP pair
+ *   9  a setup out of its ranges (one that refmvs_init_frame has accepted is in them)
+ *  10  columns or rows that are not a tile's
+ *  11  planes, or a list of the store, shorter than stated
+ *  12  a saved block of the superblock row, or a trajectory, out of range
  * A vector is y, then x. Empty is y = 2097152, x = 0; both bytes -128 is its packed mark. */
 #ifndef REFMVS_H
 #define REFMVS_H
@@ -114,6 +118,22 @@ uint32_t refmvs_dequantize_mv(int8_t y, int8_t x, int32_t out[2]);
 uint32_t refmvs_get_poc_diff(uint32_t order_hint_n_bits, refmvs_order_hint poc0,
                              refmvs_order_hint poc1, int32_t out[1]);
 refmvs_setup refmvs_init_frame(refmvs_header header);
+
+/* Loads a tile into the lent store. A switch is on where it is not 0. All is counted in cells of 8
+ * pixels: W and H are width and height over 8, rounded up; S is 8, 16 or 32 for superblock code 0, 1, 2;
+ * stride is the width raised to a multiple of 256, over 8.
+ * field: (S + 3) * stride cells, or with whole_frame H raised to a multiple of 32, times stride.
+ * traj: 7 * S * stride; map: 21 * S * stride; planes: 7 * H * stride blocks of six bytes, vector 0 (y, x),
+ * vector 1, reference 0, reference 1. Lists may be longer; what lies behind is neither read nor written.
+ * Columns from col_start to col_end, rows from row_start to row_end, the ends not included.
+ * Tiles of a superblock row may come in any order. A refused call writes nothing. */
+uint32_t refmvs_load_tmvs(int32_t *field_y, size_t field_y_len, int32_t *field_x,
+                          size_t field_x_len, uint8_t *field_ref, size_t field_ref_len,
+                          int32_t *traj_y, size_t traj_y_len, int32_t *traj_x, size_t traj_x_len,
+                          int8_t *map_y, size_t map_y_len, int8_t *map_x, size_t map_x_len,
+                          const int8_t *planes, size_t planes_len, refmvs_frame setup,
+                          uint8_t whole_frame, uint8_t traj, uint8_t holes, size_t col_start,
+                          size_t col_end, size_t row_start, size_t row_end);
 
 #ifdef __cplusplus
 }

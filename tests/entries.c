@@ -51,6 +51,49 @@ static void setup(void)
     expect(s.refusal == 7 && s.frame.n_ref_frames == 0 && s.frame.pocdiff[0] == 0 && s.frame.sources.n_mfmvs == 0, "setup refused: 7, zeros");
 }
 
+/* The store of a frame of 8 x 8 cells in row mode: S is 8, stride 32. */
+enum { FIELD = 11 * 32, TRAJ = 7 * 256, MAP = 21 * 256, PLANES = 7 * 8 * 32 * 6 };
+static struct {
+    int32_t field_y[FIELD], field_x[FIELD], traj_y[TRAJ], traj_x[TRAJ];
+    uint8_t field_ref[FIELD];
+    int8_t map_y[MAP], map_x[MAP];
+} store, before;
+static int8_t planes[PLANES];
+
+static uint32_t load(refmvs_frame frame, size_t col_end, size_t planes_len)
+{
+    return refmvs_load_tmvs(store.field_y, FIELD, store.field_x, FIELD, store.field_ref, FIELD,
+                            store.traj_y, TRAJ, store.traj_x, TRAJ, store.map_y, MAP, store.map_x,
+                            MAP, planes, planes_len, frame, 0, 1, 0, 0, col_end, 0, 8);
+}
+
+static void refused(uint32_t answer, uint32_t number, const char *what)
+{
+    expect(answer == number && memcmp(&store, &before, sizeof store) == 0, what);
+}
+
+static void loads(void)
+{
+    refmvs_frame frame = refmvs_init_frame(half_range()).frame;
+    refmvs_frame five = frame;
+    int y, x, empty = 1;
+
+    memset(planes, -1, sizeof planes);
+    five.sources.n_mfmvs = 5;
+    refused(load(five, 7, 0), 9, "load of five sources: 9");
+    refused(load(frame, 7, 0), 10, "load of seven columns: 10");
+    refused(load(frame, 8, PLANES - 1), 11, "load of short planes: 11");
+    store.traj_y[TRAJ - 1] = before.traj_y[TRAJ - 1] = 65536;
+    refused(load(frame, 8, PLANES), 12, "load with a trajectory past 65535: 12");
+    store.traj_y[TRAJ - 1] = 65535;
+    expect(load(frame, 8, PLANES) == 0, "load accepted");
+    for (y = 0; y < 8; y++)
+        for (x = 0; x < 32; x++)
+            empty &= store.field_y[(3 + y) * 32 + x] == (x < 8 ? 2097152 : 0);
+    expect(empty, "load without vectors: the tile's cells are empty, no others");
+    expect(store.map_y[7 * 256] == -128 && store.map_y[0] == 0 && store.traj_y[0] == 2097152 && store.traj_y[TRAJ - 1] == 65535, "load: trajectories and maps of the tile alone");
+}
+
 int main(void)
 {
     int32_t v[2] = {7, 8};
@@ -70,6 +113,7 @@ int main(void)
     expect(refmvs_get_poc_diff(9, one, fifteen, d) == 3 && d[0] == 7, "hints refused: 3, buffer as it was");
     expect(refmvs_get_poc_diff(4, one, fifteen, d) == 0 && d[0] == 2, "hints 1 and 15, 4 bits");
     setup();
+    loads();
     if (failures == 0)
         printf("C entries: as documented\n");
     return failures != 0;

@@ -6,8 +6,10 @@ use lib.Dec.{eqb}
 use lib.ListN.{getD}
 use Rattle.loops.specs.Seven.{seven}
 use Rattle.frame.specs.declared.Header.{Header}
+use Rattle.frame.specs.declared.Frame.{Frame}
 use Rattle.frame.specs.Frame.{SaidSetup}
 use Rattle.refmvs.specs.declared.CHeader.{CHeader}
+use Rattle.refmvs.specs.declared.CFrame.{CFrame}
 use Rattle.refmvs.specs.declared.CSetup.{CSetup}
 
 -- a switch is on where its byte is not 0
@@ -38,3 +40,25 @@ headerOf c =
 -- what C gets, in 01's terms
 abbrev pub givenBy : CSetup → SaidSetup
 givenBy s = record { refusal = s .refusal; frame = s .frame }
+
+-- the setup that C hands to a load, its switches read
+abbrev pub frameOf : CFrame → Frame
+frameOf c =
+    record {
+      width = c .width;
+      height = c .height;
+      sb128 = c .sb128;
+      «tmvp_sample_step» = c .«tmvp_sample_step»;
+      «n_refs» = c .«n_refs»;
+      «tip_frame_mode» = c .«tip_frame_mode»;
+      tip0 = c .tip0;
+      tip1 = c .tip1;
+      «rp_ref» = switchesOf (c .«rp_ref»);
+      «ref_sign» = switchesOf (c .«ref_sign»);
+      pocdiff = c .pocdiff;
+      abspocdiff = c .abspocdiff;
+      «ref_flip» = c .«ref_flip»;
+      tip = c .tip;
+      «use_ref_frame_mvs» = on (c .«use_ref_frame_mvs»);
+      sources = c .sources;
+    }

@@ -7,10 +7,16 @@ ghost use Rattle.mv.specs.Packing.{packed, unpacked};
 ghost use Rattle.env.specs.Hints.{pocDiff};
 ghost use Rattle.frame.specs.Frame.{setupOf};
 ghost use mathlib.Core.Path.{_≡_};
+ghost use Rattle.store.specs.Store.{pack};
+ghost use Rattle.store.specs.Calls.{called};
+ghost use Rattle.load.specs.Calls.{answer, load};
+ghost use Rattle.checks.specs.Code.{callOf};
 ghost use Rattle.refmvs.specs.Lent.{Gives, GivesBytes, GivesDiff};
-ghost use Rattle.refmvs.specs.Setup.{headerOf, givenBy};
+ghost use Rattle.refmvs.specs.Setup.{on, headerOf, givenBy, frameOf};
 use frame::Frame;
 use frame::Header;
+use frame::Sources;
+use frame::Tip;
 use levels::Mv;
 use levels::MvAnswer;
 use levels::OrderHint;
@@ -123,6 +129,27 @@ pub struct CSetup {
     pub frame: Frame,
 }
 
+// A setup as C hands it to a load: as it was given, but that switches are bytes, on where not 0.
+#[repr(C)]
+pub struct CFrame {
+    pub width: u32,
+    pub height: u32,
+    pub sb128: u8,
+    pub tmvp_sample_step: u8,
+    pub n_refs: usize,
+    pub tip_frame_mode: u8,
+    pub tip0: i8,
+    pub tip1: i8,
+    pub rp_ref: [u8; 7],
+    pub ref_sign: [u8; 7],
+    pub pocdiff: [i8; 7],
+    pub abspocdiff: [u8; 7],
+    pub ref_flip: u64,
+    pub tip: Tip,
+    pub use_ref_frame_mvs: u8,
+    pub sources: Sources,
+}
+
 fn switches(bytes: [u8; 7]) -> [bool; 7]
     ensures { λ r. ⌜ r ≡ Rattle.refmvs.specs.Setup.switchesOf bytes ⌝ }
 {
@@ -168,6 +195,37 @@ fn header_of(c: CHeader) -> Header
     }
 }
 
+fn frame_of(given: CFrame) -> Frame
+    ensures { λ r. ⌜ r ≡ frameOf given ⌝ }
+{
+    let present = given.rp_ref;
+    let signs = given.ref_sign;
+    let rp_ref = switches(present);
+    let ref_sign = switches(signs);
+    let pocdiff = given.pocdiff;
+    let abspocdiff = given.abspocdiff;
+    let tip = given.tip;
+    let sources = given.sources;
+    Frame {
+        width: given.width,
+        height: given.height,
+        sb128: given.sb128,
+        tmvp_sample_step: given.tmvp_sample_step,
+        n_refs: given.n_refs,
+        tip_frame_mode: given.tip_frame_mode,
+        tip0: given.tip0,
+        tip1: given.tip1,
+        rp_ref,
+        ref_sign,
+        pocdiff,
+        abspocdiff,
+        ref_flip: given.ref_flip,
+        tip,
+        use_ref_frame_mvs: given.use_ref_frame_mvs != 0,
+        sources,
+    }
+}
+
 #[no_mangle]
 pub extern "C" fn refmvs_init_frame(header: CHeader) -> CSetup
     ensures { λ r. ⌜ givenBy r ≡ setupOf (headerOf header) ⌝ }
@@ -177,4 +235,52 @@ pub extern "C" fn refmvs_init_frame(header: CHeader) -> CSetup
     let frame = s.frame;
     let refusal = frame::number(said) as u32;
     CSetup { refusal, frame }
+}
+
+// A load of a tile. The lent slices may be longer than 01 states; a refused call leaves them as they were.
+#[no_mangle]
+pub extern "C" fn refmvs_load_tmvs(
+    field_y: &mut [i32],
+    field_x: &mut [i32],
+    field_ref: &mut [u8],
+    traj_y: &mut [i32],
+    traj_x: &mut [i32],
+    map_y: &mut [i8],
+    map_x: &mut [i8],
+    planes: &[i8],
+    setup: CFrame,
+    whole_frame: u8,
+    traj: u8,
+    holes: u8,
+    col_start: usize,
+    col_end: usize,
+    row_start: usize,
+    row_end: usize,
+) -> u32
+    ensures { λ r. ⌜ (let c = callOf (frameOf setup) (on «whole_frame») (on traj) (on holes) «col_start» «col_end» «row_start» «row_end» (now (planes .entry)) in
+        let s = pack (now («field_y» .entry)) (now («field_x» .entry)) (now («field_ref» .entry)) (now («traj_y» .entry)) (now («traj_x» .entry)) (now («map_y» .entry)) (now («map_x» .entry)) in
+        (r ≡ answer c s)
+        × (pack (now («field_y» .exit)) (now («field_x» .exit)) (now («field_ref» .exit)) (now («traj_y» .exit)) (now («traj_x» .exit)) (now («map_y» .exit)) (now («map_x» .exit))
+        ≡ called answer load c s)) ⌝ }
+{
+    let f = frame_of(setup);
+    let said = tmvs::load_tmvs(
+        field_y,
+        field_x,
+        field_ref,
+        traj_y,
+        traj_x,
+        map_y,
+        map_x,
+        planes,
+        f,
+        whole_frame != 0,
+        traj != 0,
+        holes != 0,
+        col_start,
+        col_end,
+        row_start,
+        row_end,
+    );
+    checks::number(said) as u32
 }
