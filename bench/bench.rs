@@ -7,6 +7,9 @@ use oracle::entry::{self, Header, OrderHint, Saved};
 use oracle::rng::Rng;
 use oracle::{args, shim};
 
+mod loads;
+mod passes;
+
 // Too many for a branch predictor to learn by heart, few enough for the cache.
 const INPUTS: usize = 8_192;
 const TIME_EACH: Duration = Duration::from_secs(4);
@@ -212,6 +215,9 @@ fn main() -> ExitCode {
         eprintln!("usage: bench [--seed N]");
         return ExitCode::from(2);
     };
-    time_all(&mut Rng::new(seed));
+    let rng = &mut Rng::new(seed);
+    time_all(rng);
+    passes::time_all(rng);
+    loads::time_all(rng);
     ExitCode::SUCCESS
 }

@@ -39,7 +39,7 @@ fn need(file: &Path, hint: &str) {
 fn main() {
     println!("cargo::rerun-if-changed=build.rs");
     let source = folder("REFMVS_RUST_SRC", "the published refmvs.rs");
-    let library = folder("REFMVS_LIB", "librefmvs.a");
+    let library = folder("REFMVS_LIB", "librefmvs.a and libpasses.a");
 
     let mut declarations = String::new();
     for module in MODULES {
@@ -50,7 +50,10 @@ fn main() {
     let out = PathBuf::from(env::var_os("OUT_DIR").unwrap()).join("published.rs");
     fs::write(out, declarations).unwrap();
 
-    need(&library.join("librefmvs.a"), "run `rt staticlib refmvs`");
     println!("cargo::rustc-link-search=native={}", library.display());
-    println!("cargo::rustc-link-lib=static=refmvs");
+    for name in ["refmvs", "passes"] {
+        let hint = format!("run `rt staticlib {name}`");
+        need(&library.join(format!("lib{name}.a")), &hint);
+        println!("cargo::rustc-link-lib=static={name}");
+    }
 }

@@ -1,4 +1,5 @@
 //! The library's entries, as include/refmvs.h declares them.
+use crate::load::{Call, Store};
 
 #[derive(Clone, Copy, Debug, Default, PartialEq)]
 #[repr(C)]
@@ -132,4 +133,71 @@ unsafe extern "C" {
         out: *mut i32,
     ) -> u32;
     pub fn refmvs_init_frame(header: Header) -> Setup;
+    fn refmvs_load_tmvs(
+        field_y: *mut i32,
+        field_y_len: usize,
+        field_x: *mut i32,
+        field_x_len: usize,
+        field_ref: *mut u8,
+        field_ref_len: usize,
+        traj_y: *mut i32,
+        traj_y_len: usize,
+        traj_x: *mut i32,
+        traj_x_len: usize,
+        map_y: *mut i8,
+        map_y_len: usize,
+        map_x: *mut i8,
+        map_x_len: usize,
+        planes: *const i8,
+        planes_len: usize,
+        setup: Frame,
+        whole_frame: u8,
+        traj: u8,
+        holes: u8,
+        col_start: usize,
+        col_end: usize,
+        row_start: usize,
+        row_end: usize,
+    ) -> u32;
+}
+
+/// The library's load of a call: the refusal's number, 0 for none.
+pub fn load_tmvs(call: &Call, store: &mut Store) -> u32 {
+    let Store {
+        field_y,
+        field_x,
+        field_ref,
+        traj_y,
+        traj_x,
+        map_y,
+        map_x,
+    } = store;
+    unsafe {
+        refmvs_load_tmvs(
+            field_y.as_mut_ptr(),
+            field_y.len(),
+            field_x.as_mut_ptr(),
+            field_x.len(),
+            field_ref.as_mut_ptr(),
+            field_ref.len(),
+            traj_y.as_mut_ptr(),
+            traj_y.len(),
+            traj_x.as_mut_ptr(),
+            traj_x.len(),
+            map_y.as_mut_ptr(),
+            map_y.len(),
+            map_x.as_mut_ptr(),
+            map_x.len(),
+            call.planes.as_ptr(),
+            call.planes.len(),
+            call.setup,
+            u8::from(call.whole_frame),
+            u8::from(call.traj),
+            u8::from(call.holes),
+            call.columns.0,
+            call.columns.1,
+            call.rows.0,
+            call.rows.1,
+        )
+    }
 }

@@ -138,9 +138,28 @@ fn call_text(call: &Call, store: &mut Store) -> String {
         reference::load_tmvs(call, store);
     }
     let numbers = cases::load::numbers(call).map(|n| n as Number).into_iter();
-    let mut text = line("call", numbers.chain([answer.into()]));
-    let mut changed = 0;
-    let pairs = before.lists().into_iter().zip(store.lists());
+    line("call", numbers.chain([answer.into()])) + &changes_text(&before, store)
+}
+
+/// A pass with its numbers, of a case of its own: what it makes of the store before it is the store after it.
+pub fn pass_text(n: usize, pass: [i64; PASS_NUMBERS], call: &Call, stores: [&Store; 2]) -> String {
+    let [before, after] = stores;
+    let lists = before.lists().map(|(_, list)| list);
+    let lengths = lists.iter().map(|list| list.len() as Number).chain([0]);
+    let mut text = line("case", [n as Number].into_iter().chain(lengths));
+    for (at, list) in lists.iter().enumerate() {
+        text += &run_lines("set", at, &contents(list, 1));
+    }
+    let record = fields::frame(&call.setup).into_iter();
+    text += &line("setup", record.flat_map(|(_, numbers)| numbers));
+    let numbers = cases::load::numbers(call).map(|n| n as Number).into_iter();
+    text += &line("pass", pass.map(Number::from).into_iter().chain(numbers));
+    text + &changes_text(before, after)
+}
+
+fn changes_text(before: &Store, after: &Store) -> String {
+    let (mut text, mut changed) = (String::new(), 0);
+    let pairs = before.lists().into_iter().zip(after.lists());
     for (list, ((_, before), (_, after))) in pairs.enumerate() {
         let runs = differing(&before, &after, 0);
         changed += runs.iter().map(|run| run.count).sum::<usize>();
@@ -216,16 +235,30 @@ impl Run {
 
 // ---- reading
 
-/// A call of the list, and what the list says of it.
+/// A call or a pass of the list, and what the list says of it.
 pub struct Kept {
     /// The call's line.
     pub line: usize,
     /// It is the first one of its case.
     pub first: bool,
     pub call: Call,
+    /// The pass with its numbers, where no whole load is kept.
+    pub pass: Option<[i64; PASS_NUMBERS]>,
     pub before: Store,
     pub answer: u32,
     pub after: Store,
+}
+
+/// Of a `pass` line, before the numbers of the call.
+pub const PASS_NUMBERS: usize = 7;
+
+/// A call whose changes are being read.
+struct Begun {
+    line: usize,
+    call: Call,
+    pass: Option<[i64; PASS_NUMBERS]>,
+    answer: u32,
+    before: Lists,
 }
 
 /// What the lines have said so far.
@@ -234,8 +267,7 @@ struct Reader {
     lists: Lists,
     setup: Option<Frame>,
     first: bool,
-    /// A call whose changes are being read: its line, itself, its answer, the lists before it.
-    call: Option<(usize, Call, u32, Lists)>,
+    call: Option<Begun>,
     /// Elements that `changed` lines have named.
     changed: usize,
 }
@@ -275,7 +307,8 @@ impl Reader {
             ("case", false) => self.case(&numbers)?,
             ("setup", false) => self.setup = Some(fields::frame_of(&numbers).ok_or("no record")?),
             ("set", false) => self.put(&numbers, LISTS)?,
-            ("call", false) => self.begin(n, &numbers)?,
+            ("call", false) => self.begin(n, None, &numbers)?,
+            ("pass", false) => self.begin_pass(n, &numbers)?,
             ("changed", true) => self.changed(&numbers)?,
             ("check", true) => return self.check(&numbers).map(Some),
             _ => return Err("not a line that may stand here"),
@@ -306,7 +339,17 @@ impl Reader {
         Ok(())
     }
 
-    fn begin(&mut self, n: usize, numbers: &[i64]) -> Read<()> {
+    fn begin_pass(&mut self, n: usize, numbers: &[i64]) -> Read<()> {
+        let (&pass, call) = numbers.split_first_chunk().ok_or("no pass")?;
+        self.begin(n, Some(pass), &[call, &[0]].concat())
+    }
+
+    fn begin(
+        &mut self,
+        line: usize,
+        pass: Option<[i64; PASS_NUMBERS]>,
+        numbers: &[i64],
+    ) -> Read<()> {
         let numbers: Option<Vec<usize>> = numbers.iter().map(|&n| n.try_into().ok()).collect();
         let Some(&[mode, traj, holes, left, right, top, bottom, answer]) = numbers.as_deref()
         else {
@@ -322,7 +365,13 @@ impl Reader {
             rows: (top, bottom),
             planes: Rc::new(planes.map_err(|_| "a plane has signed bytes")?),
         };
-        self.call = Some((n, call, answer as u32, self.lists.clone()));
+        self.call = Some(Begun {
+            line,
+            call,
+            pass,
+            answer: answer as u32,
+            before: self.lists.clone(),
+        });
         self.changed = 0;
         Ok(())
     }
@@ -334,7 +383,8 @@ impl Reader {
     }
 
     fn check(&mut self, numbers: &[i64]) -> Read<Kept> {
-        let (line, call, answer, before) = self.call.take().ok_or("no call")?;
+        let begun = self.call.take().ok_or("no call")?;
+        let before = begun.before;
         let pairs = before.iter().flatten().zip(self.lists.iter().flatten());
         let changed = pairs.filter(|(before, after)| before != after).count();
         if numbers != [changed as i64] || self.changed != changed {
@@ -347,11 +397,12 @@ impl Reader {
         let (first, after) = (self.first, store(&self.lists)?);
         self.first = false;
         Ok(Kept {
-            line,
+            line: begun.line,
             first,
-            call,
+            call: begun.call,
+            pass: begun.pass,
             before: store(&before)?,
-            answer,
+            answer: begun.answer,
             after,
         })
     }

@@ -124,6 +124,13 @@ impl Store {
         self
     }
 
+    /// Of all seven lists.
+    pub fn elements(&self) -> u64 {
+        let field = self.field_y.len() + self.field_x.len() + self.field_ref.len();
+        let trajs = self.traj_y.len() + self.traj_x.len();
+        (field + trajs + self.map_y.len() + self.map_x.len()) as u64
+    }
+
     /// Each list's name, and its elements as numbers.
     pub fn lists(&self) -> [(&'static str, Vec<i64>); STORE_LISTS] {
         fn wide<T: Copy + Into<i64>>(list: &[T]) -> Vec<i64> {

@@ -2,7 +2,7 @@ use std::io;
 use std::process::ExitCode;
 
 use oracle::loads::{self, Sides};
-use oracle::{answers, antt, args, compare, definitions, kept, unpack};
+use oracle::{answers, antt, args, compare, definitions, kept, library, passes, unpack};
 
 const USAGE: &str = "usage: oracle compare [--seed N]
        oracle answers [--seed N]
@@ -14,6 +14,10 @@ const USAGE: &str = "usage: oracle compare [--seed N]
        oracle loads --case N
        oracle loads --keep [--seed N]
        oracle loads --kept FILE
+       oracle library LOADS [--seed N]
+       oracle passes COUNT [--seed N]
+       oracle passes --keep [--seed N]
+       oracle passes --kept FILE
        oracle unpack < BYTES
        oracle bytes COUNT [--seed N]";
 
@@ -44,6 +48,18 @@ fn run(args: &[String]) -> Option<io::Result<bool>> {
         ("loads", [count, rest @ ..]) => {
             let count = count.parse().ok()?;
             Some(loads::run(args::seed(rest)?, count, Sides::Both))
+        }
+        ("library", [count, rest @ ..]) => {
+            let count = count.parse().ok()?;
+            Some(library::run(args::seed(rest)?, count))
+        }
+        ("passes", [keep, rest @ ..]) if keep == "--keep" => {
+            Some(passes::keep(args::seed(rest)?).map(|()| true))
+        }
+        ("passes", [kept, file]) if kept == "--kept" => Some(passes::kept(file)),
+        ("passes", [count, rest @ ..]) => {
+            let count = count.parse().ok()?;
+            Some(Ok(passes::run(args::seed(rest)?, count)))
         }
         ("unpack", []) => Some(unpack::run().map(|()| true)),
         ("bytes", [count, rest @ ..]) => {

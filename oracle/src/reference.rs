@@ -4,7 +4,7 @@ use crate::refmvs::{self, QMv, SnglMvBlock};
 
 mod load;
 mod setup;
-pub use load::load_tmvs;
+pub use load::{Held, load_tmvs};
 pub use setup::{Decoder, init_frame};
 
 pub const EMPTY_Y: i32 = INVALID_MV;

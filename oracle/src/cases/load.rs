@@ -43,6 +43,10 @@ pub fn random(seed: u64) -> Case {
     let mut rng = Rng::new(seed);
     let rng = &mut rng;
     let setup = setup(rng);
+    of_setup(rng, setup)
+}
+
+fn of_setup(rng: &mut Rng, setup: Frame) -> Case {
     let geometry = Geometry::new(&setup);
     let whole_frame = rng.one_in(3);
     let planes = Rc::new(blocks(rng, &setup, &geometry));
@@ -66,6 +70,78 @@ pub fn random(seed: u64) -> Case {
         store: store(rng, &geometry, whole_frame),
         one_row,
     }
+}
+
+/// A superblock row of a frame of 1080p or 4K.
+pub fn real_size(seed: u64) -> Case {
+    let mut rng = Rng::new(seed);
+    let rng = &mut rng;
+    let (width, height) = [(1_920, 1_080), (3_840, 2_160)][rng.word() as usize % 2];
+    let setup = invented(rng, width, height);
+    of_setup(rng, setup)
+}
+
+/// The first superblock row of a frame with three sources, much of whose motion is alike, for timing.
+pub fn timed(rng: &mut Rng, width: u32, height: u32, step: u8, traj: bool) -> Call {
+    let source = |reference: u8, dir: u8| Source {
+        reference: Slot { value: reference },
+        tgt: -1,
+        dir,
+        ref2cur: if dir == 0 { 2 } else { -2 },
+        ref2ref: std::array::from_fn(|n| (1 + n as i8 % 4) * if dir == 0 { 1 } else { -1 }),
+        ref2idx: std::array::from_fn(|n| (reference as i8 + 1 + n as i8) % 7),
+        ref2sf0: [8_192; 7],
+        ref2sf1: [8_192; 7],
+    };
+    let setup = Frame {
+        width,
+        height,
+        sb128: 2,
+        tmvp_sample_step: step,
+        n_ref_frames: 7,
+        tip_frame_mode: 1,
+        rp_ref: [1; 7],
+        tip: Tip {
+            delta: 3,
+            ..Tip::default()
+        },
+        sources: Sources {
+            mfmv: [source(0, 0), source(3, 1), source(5, 0), source(6, 1)],
+            n_mfmvs: 3,
+            ..Sources::default()
+        },
+        ..Frame::default()
+    };
+    let geometry = Geometry::new(&setup);
+    let planes = alike(rng, &geometry);
+    Call {
+        setup,
+        whole_frame: false,
+        traj,
+        holes: true,
+        columns: (0, geometry.wide),
+        rows: (0, geometry.side),
+        planes: Rc::new(planes),
+    }
+}
+
+/// Blocks with one vector in each direction of a plane, give or take little; an eighth without.
+fn alike(rng: &mut Rng, geometry: &Geometry) -> Vec<i8> {
+    let size = geometry.high * geometry.stride;
+    let mut all = vec![0; geometry.planes()];
+    for (at, block) in all.chunks_exact_mut(BLOCK_BYTES).enumerate() {
+        let about = (at / size) as i32 * 9 - 30;
+        for dir in 0..2 {
+            for byte in &mut block[2 * dir..2 * dir + 2] {
+                *byte = (about + rng.within(-12, 12)) as i8;
+            }
+            block[4 + dir] = match rng.one_in(8) {
+                true => -1,
+                false => rng.within(0, 6) as i8,
+            };
+        }
+    }
+    all
 }
 
 pub(super) fn pixels(rng: &mut Rng, cells: i32) -> u32 {

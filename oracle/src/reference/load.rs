@@ -8,26 +8,160 @@ use crate::refmvs::{
 
 /// A call that the scope accepts. What lies behind the stated lengths is not handed over.
 pub fn load_tmvs(call: &Call, store: &mut Store) {
-    let geometry = call.geometry();
-    let mut frame = sized(call);
-    hand_setup(call, &mut frame);
-    hand_planes(call, &geometry, &mut frame);
-    hand_store(store, &geometry, &mut frame);
-    let setup = &call.setup;
-    refmvs::load_tmvs(
-        &mut frame,
-        0,
-        call.columns.0 as i32,
-        call.columns.1 as i32,
-        call.rows.0 as i32,
-        call.rows.1 as i32,
-        call.traj,
-        setup.tip_frame_mode,
-        call.holes,
-        i32::from(setup.tmvp_sample_step),
-        setup.n_ref_frames as i32,
-    );
-    take_store(&frame, &geometry, store);
+    let mut held = Held::new(call, store);
+    held.load_tmvs(call);
+    held.take(store);
+}
+
+/// A store as the published functions hold it, in their own types, with a call's setup and planes.
+pub struct Held {
+    frame: Frame,
+    geometry: Geometry,
+}
+
+impl Held {
+    pub fn new(call: &Call, store: &Store) -> Self {
+        let geometry = call.geometry();
+        let mut frame = sized(call);
+        hand_setup(call, &mut frame);
+        hand_planes(call, &geometry, &mut frame);
+        hand_store(store, &geometry, &mut frame);
+        Self { frame, geometry }
+    }
+
+    /// The store again. What lies behind the stated lengths stays.
+    pub fn take(&self, store: &mut Store) {
+        take_store(&self.frame, &self.geometry, store);
+    }
+
+    /// The cells of another store of the same sizes.
+    pub fn restore(&mut self, other: &Held) {
+        self.frame.rp_proj.copy_from_slice(&other.frame.rp_proj);
+        for slot in 0..SLOTS {
+            self.frame.rp_traj[slot].copy_from_slice(&other.frame.rp_traj[slot]);
+            for k in 0..MAP_PLANES {
+                self.frame.rp_map[k][slot].copy_from_slice(&other.frame.rp_map[k][slot]);
+            }
+        }
+    }
+
+    pub fn load_tmvs(&mut self, call: &Call) {
+        let setup = &call.setup;
+        refmvs::load_tmvs(
+            &mut self.frame,
+            0,
+            call.columns.0 as i32,
+            call.columns.1 as i32,
+            call.rows.0 as i32,
+            call.rows.1 as i32,
+            call.traj,
+            setup.tip_frame_mode,
+            call.holes,
+            i32::from(setup.tmvp_sample_step),
+            setup.n_ref_frames as i32,
+        );
+    }
+
+    /// A load of a call without sources, TIP and slots: copy of the rows above and emptying alone, as all that follows finds empty cells.
+    pub fn empty(&mut self, call: &Call) {
+        let mut call = call.clone();
+        call.setup.n_ref_frames = 0;
+        call.setup.tip_frame_mode = 0;
+        let sources = std::mem::take(&mut self.frame.n_mfmvs);
+        self.load_tmvs(&call);
+        self.frame.n_mfmvs = sources;
+    }
+
+    pub fn tip_projection(&mut self, call: &Call) {
+        self.over_field(call, refmvs::tip_projection);
+    }
+
+    pub fn fill_holes(&mut self, call: &Call) {
+        self.over_field(call, refmvs::fill_holes);
+    }
+
+    pub fn smoothen(&mut self, call: &Call) {
+        self.over_field(call, refmvs::smoothen);
+    }
+
+    fn over_field(&mut self, call: &Call, pass: FieldPass) {
+        let (g, [left, right, top, bottom]) = (&self.geometry, bounds(call));
+        pass(
+            &mut self.frame.rp_proj[call.offset()..],
+            g.stride as isize,
+            left,
+            right,
+            top,
+            bottom,
+            g.block as i32,
+            g.side as i32,
+            g.step as i32,
+            call.setup.tip.delta,
+        );
+    }
+
+    pub fn fill_gap_proj(&mut self, call: &Call) {
+        let (g, [left, right, top, bottom]) = (&self.geometry, bounds(call));
+        refmvs::fill_gap_proj(
+            &mut self.frame.rp_proj[call.offset()..],
+            g.stride as isize,
+            left,
+            right,
+            top,
+            bottom,
+            g.block as i32,
+            g.side as i32,
+        );
+    }
+
+    /// Slots a and b, the block at (y, x), its vector.
+    pub fn check_traj_intersect(
+        &mut self,
+        call: &Call,
+        [a, b]: [usize; 2],
+        at: [i32; 2],
+        mv: [i32; 2],
+    ) {
+        let (trajs, maps) = (&mut self.frame.rp_traj, &mut self.frame.rp_map);
+        let (mut trajs, mut maps) = (std::mem::take(trajs), std::mem::take(maps));
+        let shift = self.frame.mfmv_k_shift;
+        refmvs::check_traj_intersect(
+            &self.frame,
+            &mut trajs,
+            &mut maps,
+            a,
+            b,
+            at[0],
+            at[1],
+            Mv::from_xy(mv[0], mv[1]),
+            call.columns.0 as i32 >> shift,
+            (call.columns.1 as i32 - 1) >> shift,
+            !(self.geometry.step as i32 - 1),
+        );
+        (self.frame.rp_traj, self.frame.rp_map) = (trajs, maps);
+    }
+
+    pub fn fill_gap_traj(&mut self, call: &Call, slot: usize) {
+        let (g, [left, right, top, bottom]) = (&self.geometry, bounds(call));
+        refmvs::fill_gap_traj(
+            &mut self.frame.rp_traj[slot],
+            g.stride as isize,
+            left,
+            right,
+            top,
+            bottom,
+            g.block as i32,
+            g.side as i32,
+        );
+    }
+}
+
+type FieldPass = fn(&mut [SnglMvBlock], isize, i32, i32, i32, i32, i32, i32, i32, i8);
+
+/// The tile's columns and rows, as the published passes take them.
+fn bounds(call: &Call) -> [i32; 4] {
+    let (left, right) = call.columns;
+    [left, right, call.rows.0, call.bottom()].map(|n| n as i32)
 }
 
 /// A frame whose sizes the published setup has worked out, and whose store it has allocated.
