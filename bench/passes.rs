@@ -4,7 +4,7 @@ use std::time::{Duration, Instant};
 
 use oracle::cases::load as cases;
 use oracle::load::{Call, Store};
-use oracle::passes::{ALL, Contents, MEETINGS, Meeting, Pass};
+use oracle::passes::{ALL, Contents, INTERSECTIONS, Intersection, Pass};
 use oracle::reference::Held;
 use oracle::rng::Rng;
 
@@ -93,8 +93,10 @@ fn time_row(rng: &mut Rng, frame: &str, call: Call) {
         });
     }
     if call.traj {
-        let meetings: Vec<Meeting> = (0..MEETINGS).map(|_| Meeting::random(rng, &call)).collect();
-        let run = |store: &mut Store| meetings.iter().for_each(|m| m.library(&call, store));
+        let intersections: Vec<Intersection> = (0..INTERSECTIONS)
+            .map(|_| Intersection::random(rng, &call))
+            .collect();
+        let run = |store: &mut Store| intersections.iter().for_each(|m| m.library(&call, store));
         time(
             "check_traj_intersect",
             &what,
@@ -102,10 +104,10 @@ fn time_row(rng: &mut Rng, frame: &str, call: Call) {
             &stores,
             TIME_EACH,
             run,
-            |held| meetings.iter().for_each(|m| m.published(&call, held)),
+            |held| intersections.iter().for_each(|m| m.published(&call, held)),
         );
         let empty = [stores[0].clone().emptied()];
-        let run = |store: &mut Store| meetings.iter().for_each(|m| m.library(&call, store));
+        let run = |store: &mut Store| intersections.iter().for_each(|m| m.library(&call, store));
         time(
             "  with empty maps",
             &what,
@@ -113,7 +115,7 @@ fn time_row(rng: &mut Rng, frame: &str, call: Call) {
             &empty,
             TIME_EACH,
             run,
-            |held| meetings.iter().for_each(|m| m.published(&call, held)),
+            |held| intersections.iter().for_each(|m| m.published(&call, held)),
         );
     }
 }

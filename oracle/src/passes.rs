@@ -15,9 +15,9 @@ use crate::reference::{EMPTY_Y, Held};
 use crate::rng::Rng;
 
 const PRINTED_DIFFERENCES: u64 = 10;
-const MEETS: &str = "check_traj_intersect";
+const INTERSECT: &str = "check_traj_intersect";
 /// Calls of `check_traj_intersect` on a store, one after the other.
-pub const MEETINGS: usize = 64;
+pub const INTERSECTIONS: usize = 64;
 
 /// The numbers of a load, as the library takes them.
 #[derive(Clone, Copy, Debug)]
@@ -315,13 +315,13 @@ fn empty(call: &Call, store: &mut Store) {
 
 /// Slots a and b, the block at (y, x), its vector.
 #[derive(Clone, Copy, Debug)]
-pub struct Meeting {
+pub struct Intersection {
     slots: [usize; 2],
     at: [usize; 2],
     mv: [i32; 2],
 }
 
-impl Meeting {
+impl Intersection {
     /// A sampled block of the tile or of the edge beside it, and a vector of a saved block.
     pub fn random(rng: &mut Rng, call: &Call) -> Self {
         let (g, (left, right)) = (call.geometry(), call.columns);
@@ -484,27 +484,27 @@ pub fn keep(seed: u64) -> io::Result<()> {
 #[derive(Clone, Copy)]
 enum Kind {
     Pass(usize),
-    Meets(Meeting),
+    Intersect(Intersection),
 }
 
 impl Kind {
     fn random(rng: &mut Rng, kind: usize, call: &Call) -> Self {
         match kind < KEPT_PASSES {
             true => Kind::Pass(kind),
-            false => Kind::Meets(Meeting::random(rng, call)),
+            false => Kind::Intersect(Intersection::random(rng, call)),
         }
     }
 
     fn of([kind, a, b, y, x, mv_y, mv_x]: [i64; kept::PASS_NUMBERS]) -> Option<Self> {
         let kind = usize::try_from(kind).ok()?;
-        let meeting = Meeting {
+        let intersection = Intersection {
             slots: [a.try_into().ok()?, b.try_into().ok()?],
             at: [y.try_into().ok()?, x.try_into().ok()?],
             mv: [mv_y.try_into().ok()?, mv_x.try_into().ok()?],
         };
         match kind.cmp(&KEPT_PASSES) {
             Ordering::Less => Some(Kind::Pass(kind)),
-            Ordering::Equal => Some(Kind::Meets(meeting)),
+            Ordering::Equal => Some(Kind::Intersect(intersection)),
             Ordering::Greater => None,
         }
     }
@@ -512,7 +512,7 @@ impl Kind {
     fn numbers(self) -> [i64; kept::PASS_NUMBERS] {
         match self {
             Kind::Pass(kind) => [kind as i64, 0, 0, 0, 0, 0, 0],
-            Kind::Meets(Meeting { slots, at, mv }) => {
+            Kind::Intersect(Intersection { slots, at, mv }) => {
                 let [[a, b], [y, x]] = [slots, at].map(|pair| pair.map(|n| n as i64));
                 let [mv_y, mv_x] = mv.map(i64::from);
                 [KEPT_PASSES as i64, a, b, y, x, mv_y, mv_x]
@@ -523,21 +523,21 @@ impl Kind {
     fn name(self) -> &'static str {
         match self {
             Kind::Pass(kind) => ALL[kind].name(),
-            Kind::Meets(_) => MEETS,
+            Kind::Intersect(_) => INTERSECT,
         }
     }
 
     fn published(self, call: &Call, held: &mut Held) {
         match self {
             Kind::Pass(kind) => ALL[kind].published(call, held),
-            Kind::Meets(meeting) => meeting.published(call, held),
+            Kind::Intersect(intersection) => intersection.published(call, held),
         }
     }
 
     fn library(self, call: &Call, store: &mut Store) {
         match self {
             Kind::Pass(kind) => ALL[kind].library(call, store),
-            Kind::Meets(meeting) => meeting.library(call, store),
+            Kind::Intersect(intersection) => intersection.library(call, store),
         }
     }
 }
@@ -568,7 +568,7 @@ fn little(rng: &mut Rng, call: &Call, kind: usize) -> Store {
         }
     }
     for at in 0..store.traj_y.len() {
-        // Gaps of two slots show all; where trajectories meet, few have one.
+        // Gaps of two slots show all; for check_traj_intersect, few have one.
         let gaps = kind == 5 && at / g.plane() % 3 == 1 && !rng.one_in(3);
         if gaps || (near && rng.one_in(4)) {
             (store.traj_y[at], store.traj_x[at]) = (rng.within(-200, 200), rng.within(-200, 200));
@@ -634,16 +634,16 @@ impl Passes {
         for pass in ALL.into_iter().filter(|pass| pass.applies(call)) {
             self.pass(pass, seed, call, &store);
         }
-        let meetings: Vec<Meeting> = (0..MEETINGS)
-            .map(|_| Meeting::random(&mut rng, call))
+        let intersections: Vec<Intersection> = (0..INTERSECTIONS)
+            .map(|_| Intersection::random(&mut rng, call))
             .collect();
         self.both(
-            MEETS,
+            INTERSECT,
             seed,
             call,
             &store,
-            |held| meetings.iter().for_each(|m| m.published(call, held)),
-            |store| meetings.iter().for_each(|m| m.library(call, store)),
+            |held| intersections.iter().for_each(|m| m.published(call, held)),
+            |store| intersections.iter().for_each(|m| m.library(call, store)),
         );
     }
 

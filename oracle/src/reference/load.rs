@@ -101,17 +101,8 @@ impl Held {
     }
 
     pub fn fill_gap_proj(&mut self, call: &Call) {
-        let (g, [left, right, top, bottom]) = (&self.geometry, bounds(call));
-        refmvs::fill_gap_proj(
-            &mut self.frame.rp_proj[call.offset()..],
-            g.stride as isize,
-            left,
-            right,
-            top,
-            bottom,
-            g.block as i32,
-            g.side as i32,
-        );
+        let field = &mut self.frame.rp_proj[call.offset()..];
+        over_gaps(field, &self.geometry, call, refmvs::fill_gap_proj);
     }
 
     /// Slots a and b, the block at (y, x), its vector.
@@ -142,18 +133,26 @@ impl Held {
     }
 
     pub fn fill_gap_traj(&mut self, call: &Call, slot: usize) {
-        let (g, [left, right, top, bottom]) = (&self.geometry, bounds(call));
-        refmvs::fill_gap_traj(
-            &mut self.frame.rp_traj[slot],
-            g.stride as isize,
-            left,
-            right,
-            top,
-            bottom,
-            g.block as i32,
-            g.side as i32,
-        );
+        let trajs = &mut self.frame.rp_traj[slot];
+        over_gaps(trajs, &self.geometry, call, refmvs::fill_gap_traj);
     }
+}
+
+type GapPass<T> = fn(&mut [T], isize, i32, i32, i32, i32, i32, i32);
+
+fn over_gaps<T>(cells: &mut [T], g: &Geometry, call: &Call, pass: GapPass<T>) {
+    let [left, right, top, bottom] = bounds(call);
+    let (block, side) = (g.block as i32, g.side as i32);
+    pass(
+        cells,
+        g.stride as isize,
+        left,
+        right,
+        top,
+        bottom,
+        block,
+        side,
+    );
 }
 
 type FieldPass = fn(&mut [SnglMvBlock], isize, i32, i32, i32, i32, i32, i32, i32, i8);
