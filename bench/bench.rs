@@ -210,14 +210,27 @@ fn time_all(rng: &mut Rng) {
 }
 
 fn main() -> ExitCode {
-    let args: Vec<String> = std::env::args().skip(1).collect();
-    let Some(seed) = args::seed(&args) else {
-        eprintln!("usage: bench [--seed N]");
+    let mut args: Vec<String> = std::env::args().skip(1).collect();
+    // One part alone, where it is named.
+    let named = args.first().filter(|word| !word.starts_with('-')).cloned();
+    if named.is_some() {
+        args.remove(0);
+    }
+    let part = |name: &str| named.as_deref().is_none_or(|word| word == name);
+    let known = ["leaves", "passes", "loads"].into_iter().any(part);
+    let Some(seed) = args::seed(&args).filter(|_| known) else {
+        eprintln!("usage: bench [leaves|passes|loads] [--seed N]");
         return ExitCode::from(2);
     };
     let rng = &mut Rng::new(seed);
-    time_all(rng);
-    passes::time_all(rng);
-    loads::time_all(rng);
+    if part("leaves") {
+        time_all(rng);
+    }
+    if part("passes") {
+        passes::time_all(rng);
+    }
+    if part("loads") {
+        loads::time_all(rng);
+    }
     ExitCode::SUCCESS
 }

@@ -190,6 +190,13 @@ pub toZ-bool : (w : Width) (b : Bool) → toZ w (boolByte b) ≡ pos (boolByte b
 toZ-bool w true = toZ-pos w (pow-lt {i = 0} {j = hbits w} (hbits-pos w))
 toZ-bool w false = toZ-pos w (pow-pos (hbits w))
 
+-- 0 adds nothing
+pub plus-none : (z : ℤ) → z +ℤ pos 0 ≡ z
+plus-none z = ud-eq _ _ (omega (arith, ud-add z (pos 0), ud z))
+
+pub none-plus : (z : ℤ) → pos 0 +ℤ z ≡ z
+none-plus z = ud-eq _ _ (omega (arith, ud-add (pos 0) z, ud z))
+
 -- two numbers that are equal, by their parts
 pub ud-of : {a b : ℤ} → a ≡ b → (up a ≡ up b) × (dn a ≡ dn b)
 ud-of e = (ap up e, ap dn e)

@@ -26,6 +26,11 @@ sum-more n s z h f =
     let b = sum-between n s h in let a = ud-add s z in let v = ud z in let m = ud-neg (pos ((n + 1) * 2147483648)) in
     record { low = omega signed!; high = omega signed! }
 
+pub sum-two : (a b : ℤ) → SFits w32 a → SFits w32 b → SumOf 2 (a +ℤ b)
+sum-two a b f g =
+    let s = ud-add a b in let u = ud a in let v = ud b in let m = ud-neg (pos (2 * 2147483648)) in
+    record { low = omega signed!; high = omega signed! }
+
 pub sum-wide : (n : ℕ) (s : ℤ) → n ≤ 5 → SumOf n s → SFits w64 s
 sum-wide n s l h = let b = sum-between n s h in omega signed
 
@@ -61,6 +66,13 @@ average-fits n s k bits h =
 pub averaged : (n : ℕ) (s : ℤ) (k bits : ℕ) → SumOf n s → k ≡ 2 ^ bits / n → 1 ≤ bits → bits ≤ 16 → Averaged n s k bits
 averaged n s k bits h e l u = record { sum = h; part = rw (e, mul-comm n (2 ^ bits / n)) (div-mul-le-self (2 ^ bits) n); some = l; few = u }
 
+-- the mean of two that are one is that one
+pub gap-twice : (z : ℤ) → gapMean 2 (z +ℤ z) ≡ gapMean 1 (pos 0 +ℤ z)
+unfolding gapMean
+gap-twice z =
+    let e : (z +ℤ z) *ℤ pos 128 ≡ (pos 0 +ℤ z) *ℤ pos 256 = let a = ud-add z z in let b = ud-add (pos 0) z in let f = ud-mul (z +ℤ z) (pos 128) in let g = ud-mul (pos 0 +ℤ z) (pos 256) in omega signed in
+    ap (roundDiv 256) e
+
 -- ---- it is the whole number nearest to the mean
 
 -- by the sum's magnitude
@@ -76,7 +88,7 @@ near-of n m q h k =
     record { near = omega arith; away = λ e. k (omega arith) }
 
 -- one of five
-five : (P : ℕ → Type 0) → P 1 → P 2 → P 3 → P 4 → P 5 → (n : ℕ) → 1 ≤ n → n ≤ 5 → P n
+pub five : (P : ℕ → Type 0) → P 1 → P 2 → P 3 → P 4 → P 5 → (n : ℕ) → 1 ≤ n → n ≤ 5 → P n
 five P a b c d e zero l h = absurd (omega arith)
 five P a b c d e (suc zero) l h = a
 five P a b c d e (suc (suc zero)) l h = b

@@ -1,9 +1,9 @@
 // Projection, scaling and packing of motion vectors, and the averages of the field's passes: the
 // leaves of refmvs.rs.
 ghost use mathlib.Core.Path.{_≡_};
-ghost use mathlib.Core.Bool.{false};
+ghost use mathlib.Core.Bool.{false, cond};
 ghost use Prim.Native.Nat.{_+_, _<_, _≤_, _/_, _^_};
-ghost use lib.IntN.{pos, natAbs, _*ℤ_};
+ghost use lib.IntN.{pos, natAbs, _+ℤ_, _*ℤ_};
 ghost use Rattle.intops.specs.Choice.{withSign};
 ghost use Rattle.intops.specs.Bounds.{Within};
 ghost use Rattle.intops.specs.Rounding.{roundDiv};
@@ -215,18 +215,12 @@ pub fn average_of(sum: i64, n: usize, idiv: u32, bits: u32) -> i32
     intops::round_shift(p, bits) as i32
 }
 
-// SMOOTHEN_IDIV: 65536 / n, the whole part.
+// SMOOTHEN_IDIV: 65536 / n, the whole part. A table of it would be a branch for each n, and n can't be foreseen.
 pub fn smoothen_idiv(n: usize) -> u32
     requires { ⌜ (1 ≤ n) × (n ≤ 5) ⌝ }
     ensures { λ r. ⌜ r ≡ 65536 / n ⌝ }
 {
-    match n {
-        1 => 65536,
-        2 => 32768,
-        3 => 21845,
-        4 => 16384,
-        _ => 13107,
-    }
+    65536 / (n as u32)
 }
 
 // The average of smoothen over n cells.
@@ -237,17 +231,13 @@ pub fn smooth_average(sum: i64, n: usize) -> i32
     average_of(sum, n, smoothen_idiv(n), 16)
 }
 
-// 256 / n, the whole part.
+// 256 / n, the whole part: 256, 128, 85 and 64 in the four parts of one number, so that no branch is needed.
 pub fn gap_idiv(n: usize) -> u32
     requires { ⌜ (1 ≤ n) × (n ≤ 4) ⌝ }
     ensures { λ r. ⌜ r ≡ 256 / n ⌝ }
 {
-    match n {
-        1 => 256,
-        2 => 128,
-        3 => 85,
-        _ => 64,
-    }
+    let all: u64 = 18014763590091008;
+    ((all >> (16 * (n as u32 - 1))) & 65535) as u32
 }
 
 // The average of fill_gap_proj and fill_gap_traj over n cells.
@@ -265,18 +255,25 @@ pub fn is_empty(mv: Mv) -> bool
     mv.y == levels::INVALID_MV
 }
 
+// z, or 0: a choice of one value, which compiles without a branch. Which cells are empty can't be foreseen.
+fn kept(there: bool, z: i32) -> i64
+    ensures { λ r. ⌜ r ≡ cond there z (pos 0) ⌝ }
+{
+    if there { z as i64 } else { 0 }
+}
+
 // A cell that is not empty is added.
 pub fn add(v: Mv, s: Sum) -> Sum
     requires { ⌜ Fair s × (s .n ≤ 4) ⌝ }
     ensures { λ r. ⌜ (r ≡ added v s) × Fair r × (s .n ≤ r .n) × (r .n ≤ s .n + 1) ⌝ }
 {
-    if is_empty(v) {
-        return s;
-    }
+    let there = !is_empty(v);
+    let y = s.y + kept(there, v.y);
+    let x = s.x + kept(there, v.x);
     Sum {
-        y: s.y + v.y as i64,
-        x: s.x + v.x as i64,
-        n: s.n + 1,
+        y,
+        x,
+        n: s.n + there as usize,
     }
 }
 
@@ -314,12 +311,28 @@ pub fn one(v: Mv) -> Sum
     add(v, Sum { y: 0, x: 0, n: 0 })
 }
 
-// The mean of a cell that is not empty and one more.
+fn mean_of_two(a: i32, b: i32) -> i32
+    ensures { λ r. ⌜ r ≡ gapMean 2 (a +ℤ b) ⌝ }
+{
+    gap_average(a as i64 + b as i64, 2)
+}
+
+// a, or v where a is empty.
+fn or_else(a: Mv, v: Mv) -> Mv
+    ensures { λ r. ⌜ r ≡ cond (isEmpty a) v a ⌝ }
+{
+    if is_empty(a) { v } else { a }
+}
+
+// The mean of a cell that is not empty and one more. Where that is empty v stands for it, as the mean of v and v is v.
 pub fn gap_of_two(v: Mv, a: Mv) -> Mv
     requires { ⌜ isEmpty v ≡ false ⌝ }
     ensures { λ r. ⌜ r ≡ gapOf (added a (added v noSum)) ⌝ }
 {
-    gap_of(add(a, one(v)))
+    let b = or_else(a, v);
+    let y = mean_of_two(v.y, b.y);
+    let x = mean_of_two(v.x, b.x);
+    Mv { y, x }
 }
 
 // The same with three more.
