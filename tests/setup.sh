@@ -1,5 +1,19 @@
 # Sourced by the scripts: progress lines, and what a fresh machine lacks.
-step() { echo "== $*"; }
+: "${tests_began:=$(date +%s)}"
+export tests_began
+step() { echo "== $* (at $(($(date +%s) - tests_began)) s)"; }
+
+# together COMMAND COMMAND: two lines of shell at the same time; what they print comes in their order. Fails where one does.
+together() {
+    local second status=0
+    mkdir -p target/tests
+    bash -euo pipefail -c "$2" >target/tests/second 2>&1 &
+    second=$!
+    bash -euo pipefail -c "$1" || status=1
+    wait "$second" || status=1
+    cat target/tests/second
+    return "$status"
+}
 
 # need COMMAND..: each is there, or is installed from Debian's packages where that can be done.
 need() {
