@@ -2,4 +2,3 @@ pub mod Owned
 pub mod Lists
 pub mod Ways
 pub mod Keeps
-pub mod Blocks

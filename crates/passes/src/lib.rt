@@ -71,7 +71,7 @@ pub extern "C" fn pass_fill_holes(
     ensures { λ _. ⌜ ((s : Store) → withField s (now («field_y» .exit)) (now («field_x» .exit)) (now («field_ref» .exit))
         ≡ run (owns t) (fillHoles t delta) (withField s (now («field_y» .entry)) (now («field_x» .entry)) (now («field_ref» .entry)))) ⌝ }
 {
-    field::fill_holes(field_y, field_x, field_ref, t, delta);
+    holes::fill_holes(field_y, field_x, field_ref, t, delta);
 }
 
 #[no_mangle]
@@ -86,7 +86,7 @@ pub extern "C" fn pass_smoothen(
     ensures { λ _. ⌜ ((s : Store) → withField s (now («field_y» .exit)) (now («field_x» .exit)) (now («field_ref» .exit))
         ≡ run (owns t) (smoothen t delta) (withField s (now («field_y» .entry)) (now («field_x» .entry)) (now («field_ref» .entry)))) ⌝ }
 {
-    field::smoothen(field_y, field_x, field_ref, t, delta);
+    smooth::smoothen(field_y, field_x, field_ref, t, delta);
 }
 
 #[no_mangle]
@@ -101,7 +101,7 @@ pub extern "C" fn pass_fill_gap_proj(
         ≡ run (owns t) (fillGapProj t) (withField s (now («field_y» .entry)) (now («field_x» .entry)) (now («field_ref» .entry)))) ⌝ }
 {
     let table = mv::div_mult_table();
-    field::fill_gap_proj(field_y, field_x, field_ref, &table, t);
+    gaps::fill_gap_proj(field_y, field_x, field_ref, &table, t);
 }
 
 #[no_mangle]

@@ -126,8 +126,8 @@ fn tip_passes(
     if !holes {
         return;
     }
-    field::fill_holes(field_y, field_x, field_ref, t, delta);
-    field::smoothen(field_y, field_x, field_ref, t, delta);
+    holes::fill_holes(field_y, field_x, field_ref, t, delta);
+    smooth::smoothen(field_y, field_x, field_ref, t, delta);
 }
 
 // The trajectories of the slots in use.
@@ -162,7 +162,7 @@ fn gap_passes(
         return;
     }
     fill_gap_trajs(traj_y, traj_x, t, n_refs);
-    field::fill_gap_proj(field_y, field_x, field_ref, table, t);
+    gaps::fill_gap_proj(field_y, field_x, field_ref, table, t);
 }
 
 // A tile whose tests have passed.
