@@ -1,11 +1,10 @@
 // The kinds of cases: a new one has a number, a name of at most 16 letters and an arm here, and a
-// function in judge.rt or setup.rt. There is room for 31 tallies.
+// function in a crate of cases. There is room for 31 tallies.
 ghost use Rattle.io.specs.Counts.{Counts};
-use crate::judge;
-use crate::judge::Verdict;
-use crate::setup;
+use cases::Verdict;
+use lines::report;
 
-pub const NONE: usize = 0;
+const NONE: usize = 0;
 
 const PROJECT: usize = 1;
 
@@ -23,72 +22,43 @@ const GAP: usize = 7;
 
 const FRAME: usize = 8;
 // The last kind's number.
-pub const KINDS: usize = 8;
-
-// Copies what fits of word to the front of out, and answers how many bytes.
-fn put(word: &[u8], out: &mut [u8]) -> usize
-    ensures { λ r. ⌜ Counts r (now (out .exit)) ⌝ }
-{
-    let mut i = 0;
-    while i < word.len() {
-        if out.len() <= i {
-            return i;
-        }
-        out[i] = word[i];
-        i += 1;
-    }
-    i
-}
+const KINDS: usize = 8;
 
 // Puts the kind's name at the front of out, and answers its length.
-pub fn put_name(kind: usize, out: &mut [u8]) -> usize
+fn put_name(kind: usize, out: &mut [u8]) -> usize
     ensures { λ r. ⌜ Counts r (now (out .exit)) ⌝ }
 {
     match kind {
-        PROJECT => put(b"project", out),
-        SCALE => put(b"scale", out),
-        QUANTIZE => put(b"quantize", out),
-        DEQUANTIZE => put(b"dequantize", out),
-        HINT => put(b"hint", out),
-        SMOOTH => put(b"smooth", out),
-        GAP => put(b"gap", out),
-        FRAME => put(b"frame", out),
+        PROJECT => lines::put(b"project", out),
+        SCALE => lines::put(b"scale", out),
+        QUANTIZE => lines::put(b"quantize", out),
+        DEQUANTIZE => lines::put(b"dequantize", out),
+        HINT => lines::put(b"hint", out),
+        SMOOTH => lines::put(b"smooth", out),
+        GAP => lines::put(b"gap", out),
+        FRAME => lines::put(b"frame", out),
         _ => 0,
     }
 }
 
 pub fn judge(kind: usize, numbers: &[i64]) -> Verdict {
     match kind {
-        PROJECT => judge::judge_project(numbers),
-        SCALE => judge::judge_scale(numbers),
-        QUANTIZE => judge::judge_quantize(numbers),
-        DEQUANTIZE => judge::judge_dequantize(numbers),
-        HINT => judge::judge_hint(numbers),
-        SMOOTH => judge::judge_smooth(numbers),
-        GAP => judge::judge_gap(numbers),
-        FRAME => setup::judge_frame(numbers),
+        PROJECT => leaf_cases::judge_project(numbers),
+        SCALE => leaf_cases::judge_scale(numbers),
+        QUANTIZE => leaf_cases::judge_quantize(numbers),
+        DEQUANTIZE => leaf_cases::judge_dequantize(numbers),
+        HINT => leaf_cases::judge_hint(numbers),
+        SMOOTH => leaf_cases::judge_smooth(numbers),
+        GAP => leaf_cases::judge_gap(numbers),
+        FRAME => frame_cases::judge_frame(numbers),
         _ => Verdict::NotACase,
     }
-}
-
-fn same(a: &[u8], b: &[u8]) -> bool {
-    if a.len() != b.len() {
-        return false;
-    }
-    let mut i = 0;
-    while i < a.len() {
-        if a[i] != b[i] {
-            return false;
-        }
-        i += 1;
-    }
-    true
 }
 
 fn is_name(kind: usize, word: &[u8]) -> bool {
     let mut name = [0u8; 16];
     let n = put_name(kind, &mut name);
-    same(word, &name[..n])
+    lines::same(word, &name[..n])
 }
 
 // The kind that has this name, or NONE.
@@ -101,4 +71,23 @@ pub fn kind_of(word: &[u8]) -> usize {
         kind -= 1;
     }
     NONE
+}
+
+fn print_kind(kind: usize, agreed: u64) {
+    let mut name = [0u8; 16];
+    let n = put_name(kind, &mut name);
+    report::print_agreed(&name[..n], agreed);
+}
+
+// Prints each kind's tally, and answers their sum.
+pub fn print_kinds(tallies: &[u64]) -> u64 {
+    let mut sum: u64 = 0;
+    let mut kind = NONE;
+    while kind < KINDS {
+        kind += 1;
+        let agreed = report::tally(tallies, kind);
+        print_kind(kind, agreed);
+        sum = std::num::wrapping_add_u64(sum, agreed);
+    }
+    sum
 }

@@ -1,0 +1,47 @@
+// What a run writes: how many cases of each kind agreed, and how it ended.
+use libc::STDOUT_FILENO;
+
+pub fn count_up(tallies: &mut [u64], kind: usize) {
+    if kind < tallies.len() {
+        tallies[kind] = crate::one_more(tallies[kind]);
+    }
+}
+
+pub fn tally(tallies: &[u64], kind: usize) -> u64 {
+    if kind < tallies.len() {
+        tallies[kind]
+    } else {
+        0
+    }
+}
+
+pub fn print_agreed(name: &[u8], agreed: u64) {
+    io::write_all(STDOUT_FILENO, name);
+    io::write_all(STDOUT_FILENO, b": ");
+    io::print_decimal(STDOUT_FILENO, agreed);
+    io::write_all(STDOUT_FILENO, b" agreed\n");
+}
+
+fn print_line(line: u64) {
+    io::write_all(STDOUT_FILENO, b"line ");
+    io::print_decimal(STDOUT_FILENO, line);
+    io::write_all(STDOUT_FILENO, b": ");
+}
+
+pub fn print_differs(line: u64, name: &[u8]) {
+    print_line(line);
+    io::write_all(STDOUT_FILENO, name);
+    io::write_all(STDOUT_FILENO, b" differs\n");
+}
+
+pub fn print_why(line: u64, why: &[u8]) {
+    print_line(line);
+    io::write_all(STDOUT_FILENO, why);
+    io::write_all(STDOUT_FILENO, b"\n");
+}
+
+pub fn print_all_agree(sum: u64) {
+    io::write_all(STDOUT_FILENO, b"all ");
+    io::print_decimal(STDOUT_FILENO, sum);
+    io::write_all(STDOUT_FILENO, b" agree\n");
+}
