@@ -170,7 +170,7 @@ pub extern "C" fn pass_project_source(
         ≡ run (owns t) (projectSource t traj held (now (planes .entry)) s)
         (pack (now («field_y» .entry)) (now («field_x» .entry)) (now («field_ref» .entry)) (now («traj_y» .entry)) (now («traj_x» .entry)) (now («map_y» .entry)) (now («map_x» .entry)))) ⌝ }
 {
-    project::project_source(
+    source::project_source(
         field_y,
         field_x,
         field_ref,

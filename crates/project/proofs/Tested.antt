@@ -18,7 +18,6 @@ use Rattle.mv.specs.Packing.{isMarkByte}
 use Rattle.entry.specs.declared.Source.{Source}
 use Rattle.project.specs.Project.{ref2idx}
 use Rattle.project.specs.Tested.{allBelow, within, entryInRange, sourceInRange, blockFine}
-use Rattle.project.specs.Code.{Ranges}
 
 -- what holds of each number below n
 pub all-below : (n : ℕ) (p : ℕ → Bool) → allBelow n p ≡ true → (i : ℕ) → i < n → p i ≡ true
@@ -91,7 +90,7 @@ source-parts s h =
     let e2 = and-both t1 t2 (e3 .0) in
     (ltb-true (s .reference .0) 7 (e2 .0), ltb-true (s .dir) 2 (e3 .1), e5 .1)
 
-entry-parts : (s : Source) → sourceInRange s ≡ true → (b : ℕ) → b < 7
+pub entry-parts : (s : Source) → sourceInRange s ≡ true → (b : ℕ) → b < 7
     → (within (negsuc 0) (pos 6) (ref2idx s b) ≡ true) × Within 507904 (getD (s .ref2sf0) b (pos 0)) × Within 507904 (getD (s .ref2sf1) b (pos 0))
 entry-parts s h b l =
     let u1 : Bool = leb (natAbs (getD (s .ref2ref) b (pos 0))) 31 in
@@ -113,7 +112,3 @@ pub record SlotsLow (s : Source) : Type 0 where
 
 pub slots-low : (s : Source) → sourceInRange s ≡ true → SlotsLow s
 slots-low s h = record { reference = source-parts s h .0; dir = source-parts s h .1; idx = λ b l. slot-low (ref2idx s b) (entry-parts s h b l .0) }
-
--- its lists
-pub ranges : (s : Source) → sourceInRange s ≡ true → Ranges (s .ref2idx) (s .ref2sf0) (s .ref2sf1)
-ranges s h = record { idx = λ b l. entry-parts s h b l .0; first = λ b l. entry-parts s h b l .1; second = λ b l. entry-parts s h b l .2 }

@@ -1,3 +1,2 @@
 pub mod Project
 pub mod Tested
-pub mod Code

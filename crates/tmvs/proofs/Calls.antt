@@ -13,7 +13,7 @@ use Rattle.tile.specs.Owner.{owns}
 use Rattle.tile.specs.Sound.{Sound}
 use Rattle.project.specs.Tested.{allBelow}
 use Rattle.project.proofs.Tested.{all-below}
-use Rattle.project.proofs.Rounds.{Held}
+use Rattle.source.proofs.Rounds.{Held}
 use Rattle.load.specs.Load.{Call, strideOf, tileOf, loadTmvs}
 use Rattle.load.specs.Calls.{sourceFine, trajsInRange, contentsFine, answer, load}
 use Rattle.load.proofs.Accepted.{passed, in-range, columns, sound}

@@ -86,7 +86,7 @@ fn project_sources(
         let reference = s.reference;
         let i = levels::slot_index(reference);
         let here = present[i];
-        project::project_source(
+        source::project_source(
             field_y,
             field_x,
             field_ref,

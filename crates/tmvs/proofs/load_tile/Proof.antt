@@ -9,7 +9,7 @@ use Rattle.store.proofs.Lent.{two, like-two}
 use Rattle.field.proofs.Lists.{lists}
 use Rattle.field.proofs.Lists as field-lists
 use Rattle.traj.proofs.Lists.{trajs-held}
-use Rattle.project.proofs.Rounds.{still-held}
+use Rattle.source.proofs.Rounds.{still-held}
 use Rattle.store.specs.Store.{pack}
 use Rattle.tmvs.proofs.Ways.{tile-loaded}
 use Rattle.tmvs.proofs.load_tile.Statement.{statement}

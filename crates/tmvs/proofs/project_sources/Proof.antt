@@ -11,7 +11,7 @@ use Rattle.store.proofs.Lent.{At, at-holds, at-again, at-done, whole-lent}
 use Rattle.tile.specs.Owner.{owns}
 use Rattle.project.specs.Tested.{sourceInRange}
 use Rattle.project.proofs.Tested.{slots-low}
-use Rattle.project.proofs.Rounds.{still-held}
+use Rattle.source.proofs.Rounds.{still-held}
 use Rattle.checks.specs.Code.{isFine}
 use Rattle.checks.proofs.Defaults.{bare, in-range-at, fine-default}
 use Rattle.tmvs.proofs.Defaults.{source-at, looked}

@@ -1,0 +1,2 @@
+pub mod Fine
+pub mod Parts
