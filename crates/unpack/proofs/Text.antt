@@ -16,9 +16,9 @@ use Rattle.levels.specs.Answer.{Said, answered, refused}
 use Rattle.levels.specs.declared.Mv.{Mv}
 use Rattle.intops.specs.Bits.{highestBit, highestFrom}
 use Rattle.mv.specs.Packing.{unpacked, unpackMag, firstWith, packCode}
-use Rattle.unpack.specs.Decimal.{decimal, natural, naturalIn}
-use Rattle.unpack.specs.Put.{Put}
-use Rattle.unpack.specs.Text.{pairLine, emptyLine, shortLine, refusedLine, numbersLine, lineOf, signedByte, text, InParts, Example}
+use Rattle.text.specs.Decimal.{decimal, natural, naturalIn, signedByte}
+use Rattle.text.specs.Put.{Put}
+use Rattle.unpack.specs.Text.{pairLine, emptyLine, shortLine, refusedLine, numbersLine, lineOf, text, InParts, Example}
 
 pub in-parts : InParts
 unfolding text

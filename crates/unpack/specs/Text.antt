@@ -2,16 +2,16 @@
 use mathlib.Core.Path.{_≡_}
 use mathlib.Core.Bool.{cond}
 use mathlib.Core.List.{List, [], _∷_, _++_}
-use Prim.Native.Nat.{ℕ, _-_, _*_}
-use lib.Dec.{ltb, eqb}
-use lib.IntN.{ℤ, pos, negsuc}
+use Prim.Native.Nat.{ℕ, _*_}
+use lib.Dec.{eqb}
+use lib.IntN.{ℤ}
 use lib.ListN.{length}
 use Rattle.intops.specs.Choice.{eqZ}
 use Rattle.levels.specs.declared.Mv.{Mv}
 use Rattle.levels.specs.Vector.{empty}
 use Rattle.levels.specs.Answer.{Said}
 use Rattle.mv.specs.Packing.{unpacked}
-use Rattle.unpack.specs.Decimal.{natural, decimal}
+use Rattle.text.specs.Decimal.{natural, decimal, signedByte}
 
 -- the line `empty`, with its line feed, 10
 abbrev pub emptyLine : List ℕ
@@ -36,10 +36,6 @@ vectorLine v = cond (eqZ (v .y) (empty .y)) emptyLine (numbersLine (v .y) (v .x)
 -- the line of an answer: refusal 0 is none
 unfoldable pub lineOf : Said → List ℕ
 lineOf s = cond (eqb (s .refusal) 0) (vectorLine (s .vector)) (refusedLine (s .refusal))
-
--- a byte as a signed number of eight bits: from 128 on, less 256
-abbrev pub signedByte : ℕ → ℤ
-signedByte b = cond (ltb b 128) (pos b) (negsuc (255 - b))
 
 -- the line of two bytes, y first, by what unpacking says of them
 unfoldable pub pairLine : ℕ → ℕ → List ℕ

@@ -6,114 +6,21 @@ ghost use mathlib.Core.List.{[], _∷_};
 ghost use lib.ListN.{length, take};
 ghost use Rattle.io.specs.Counts.{Counts};
 ghost use Rattle.mv.specs.Packing.{unpacked};
-ghost use Rattle.unpack.specs.Decimal.{natural, decimal};
-ghost use Rattle.unpack.specs.Text.{numbersLine, lineOf, signedByte, text};
-ghost use Rattle.unpack.specs.Put.{Put, Places};
+ghost use Rattle.unpack.specs.Text.{numbersLine, lineOf, text};
+ghost use Rattle.text.specs.Put.{Put};
 use levels::MvAnswer;
 use levels::QMv;
 use libc::STDIN_FILENO;
 use libc::STDOUT_FILENO;
 
-// The byte as a signed number of eight bits.
-fn signed_byte(b: u8) -> i8
-    ensures { λ r. ⌜ r ≡ signedByte b ⌝ }
-{
-    if b < 128 {
-        return b as i8;
-    }
-    -((255 - b) as i8) - 1
-}
-
-// How many decimal digits m has.
-fn places(m: u32) -> usize
-    ensures { λ r. ⌜ Places m r ⌝ }
-{
-    if m < 10 {
-        1
-    } else if m < 100 {
-        2
-    } else if m < 1000 {
-        3
-    } else if m < 10_000 {
-        4
-    } else if m < 100_000 {
-        5
-    } else if m < 1_000_000 {
-        6
-    } else if m < 10_000_000 {
-        7
-    } else if m < 100_000_000 {
-        8
-    } else if m < 1_000_000_000 {
-        9
-    } else {
-        10
-    }
-}
-
-// The ASCII code of m's last digit.
-fn last_digit(m: u32) -> u8
-    ensures { λ r. ⌜ r ≡ 48 + m % 10 ⌝ }
-{
-    48 + (m % 10) as u8
-}
-
-// Each put function writes its text into out from `at` on, and answers where the text ends.
-fn put_byte(b: u8, out: &mut [u8], at: usize) -> usize
-    requires { ⌜ at < length (now out) ⌝ }
-    ensures { λ r. ⌜ Put (now (out .entry)) at 1 (b ∷ []) (now (out .exit)) r ⌝ }
-{
-    out[at] = b;
-    at + 1
-}
-
-fn put_digits(m: u32, out: &mut [u8], at: usize) -> usize
-    requires { ⌜ at + 10 ≤ length (now out) ⌝ }
-    ensures { λ r. ⌜ Put (now (out .entry)) at 10 (natural m) (now (out .exit)) r ⌝ }
-{
-    let n = places(m);
-    let mut i = n;
-    let mut rest = m;
-    while 0 < i {
-        i -= 1;
-        out[at + i] = last_digit(rest);
-        rest /= 10;
-    }
-    at + n
-}
-
-fn put_number(v: i32, out: &mut [u8], at: usize) -> usize
-    requires { ⌜ at + 11 ≤ length (now out) ⌝ }
-    ensures { λ r. ⌜ Put (now (out .entry)) at 11 (decimal v) (now (out .exit)) r ⌝ }
-{
-    let m = intops::unsigned_abs(v);
-    if v < 0 {
-        let first = put_byte(b'-', out, at);
-        return put_digits(m, out, first);
-    }
-    put_digits(m, out, at)
-}
-
 fn put_vector(y: i32, x: i32, out: &mut [u8], at: usize) -> usize
     requires { ⌜ at + 24 ≤ length (now out) ⌝ }
     ensures { λ r. ⌜ Put (now (out .entry)) at 24 (numbersLine y x) (now (out .exit)) r ⌝ }
 {
-    let space = put_number(y, out, at);
-    let second = put_byte(b' ', out, space);
-    let end = put_number(x, out, second);
-    put_byte(b'\n', out, end)
-}
-
-fn put_word(word: &[u8], out: &mut [u8], at: usize) -> usize
-    requires { ⌜ at + length (now word) ≤ length (now out) ⌝ }
-    ensures { λ r. ⌜ Put (now (out .entry)) at (length (now (word .entry))) (now (word .entry)) (now (out .exit)) r ⌝ }
-{
-    let mut i = 0;
-    while i < word.len() {
-        out[at + i] = word[i];
-        i += 1;
-    }
-    at + i
+    let space = text::put_number(y, out, at);
+    let second = text::put_byte(b' ', out, space);
+    let end = text::put_number(x, out, second);
+    text::put_byte(b'\n', out, end)
 }
 
 fn put_line(q: QMv, out: &mut [u8], at: usize) -> usize
@@ -123,12 +30,12 @@ fn put_line(q: QMv, out: &mut [u8], at: usize) -> usize
     match mv::dequantize_mv(q) {
         MvAnswer::Vector(v) => {
             if v.y == levels::INVALID_MV {
-                return put_word(b"empty\n", out, at);
+                return text::put_word(b"empty\n", out, at);
             }
             put_vector(v.y, v.x, out, at)
         }
-        MvAnswer::OutOfRange => put_word(b"refused 1\n", out, at),
-        MvAnswer::HalfMark => put_word(b"refused 2\n", out, at),
+        MvAnswer::OutOfRange => text::put_word(b"refused 1\n", out, at),
+        MvAnswer::HalfMark => text::put_word(b"refused 2\n", out, at),
     }
 }
 
@@ -142,13 +49,13 @@ fn put_text(input: &[u8], out: &mut [u8]) -> usize
     let mut i = 0;
     let mut at = 0;
     while 1 < input.len() - i {
-        let y = signed_byte(input[i]);
-        let x = signed_byte(input[i + 1]);
+        let y = text::signed_byte(input[i]);
+        let x = text::signed_byte(input[i + 1]);
         at = put_line(QMv { y, x }, out, at);
         i += 2;
     }
     if i < input.len() {
-        return put_word(b"short\n", out, at);
+        return text::put_word(b"short\n", out, at);
     }
     at
 }

@@ -9,8 +9,8 @@ use borrow.Author.Needs.{needs}
 use Rattle.intops.proofs.Signed.{back, eq-yes, eq-no}
 use Rattle.levels.specs.Answer.{says}
 use Rattle.levels.specs.declared.MvAnswer.the-variants.{Vector, OutOfRange, HalfMark}
-use Rattle.unpack.specs.Decimal.{natural, naturalIn}
-use Rattle.unpack.proofs.Put.{put-within, put-as}
+use Rattle.text.specs.Decimal.{natural, naturalIn}
+use Rattle.text.proofs.Put.{put-within, put-as}
 use Rattle.unpack.proofs.Text.{line-refused, line-empty, line-numbers}
 use Rattle.unpack.proofs.put_line.Statement.{statement}
 use Rattle.unpack.proofs.put_line.Tie as tie

@@ -9,7 +9,7 @@ use mir.Val.{SFits}
 use borrow.Author.Needs.{needs}
 use Rattle.intops.proofs.Signed.{back}
 use Rattle.unpack.specs.Text.{text}
-use Rattle.unpack.proofs.Put.{put-as}
+use Rattle.text.proofs.Put.{put-as}
 use Rattle.unpack.proofs.Text.{pair-line, text-step, text-short, text-whole, counted}
 use Rattle.unpack.proofs.put_text.Statement.{statement}
 use Rattle.unpack.proofs.put_text.Tie as tie

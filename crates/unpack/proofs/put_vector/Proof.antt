@@ -2,7 +2,7 @@
 use borrow.Author.Needs.{needs}
 use Rattle.intops.proofs.Signed.{back}
 use Rattle.unpack.specs.Text.{numbersLine}
-use Rattle.unpack.proofs.Put.{put-then}
+use Rattle.text.proofs.Put.{put-then}
 use Rattle.unpack.proofs.put_vector.Statement.{statement}
 use Rattle.unpack.proofs.put_vector.Tie as tie
 

@@ -1,15 +1,15 @@
--- `unpack::put_number` meets its contract. Assumes nothing.
+-- `text::put_number` meets its contract. Assumes nothing.
 use mathlib.Core.List.{_∷_}
 use mathlib.Core.Path.{ap, _∙_, sym}
 use Prim.Native.Nat.{ℕ}
 use native.Mathlib.Omega.{arith}
 use borrow.Author.Needs.{needs}
 use Rattle.intops.proofs.Signed.{back}
-use Rattle.unpack.specs.Decimal.{natural}
-use Rattle.unpack.proofs.Decimal.{decimal-neg, decimal-pos}
-use Rattle.unpack.proofs.Put.{put-then, put-within, put-as}
-use Rattle.unpack.proofs.put_number.Statement.{statement}
-use Rattle.unpack.proofs.put_number.Tie as tie
+use Rattle.text.specs.Decimal.{natural}
+use Rattle.text.proofs.Decimal.{decimal-neg, decimal-pos}
+use Rattle.text.proofs.Put.{put-then, put-within, put-as}
+use Rattle.text.proofs.put_number.Statement.{statement}
+use Rattle.text.proofs.put_number.Tie as tie
 
 unsigned-abs-requires : tie.Need-unsigned-abs-requires
 unsigned-abs-requires c κs = search needs

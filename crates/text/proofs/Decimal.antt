@@ -9,8 +9,8 @@ use lib.IntN.{ℤ, pos, negsuc, natAbs}
 use lib.Signed.{ltZ}
 use borrow.Author.Tests.{lt-ltb, le-ltb, ltb-true}
 use Rattle.io.specs.Digits.{digits}
-use Rattle.unpack.specs.Decimal.{naturalIn, natural, decimal}
-use Rattle.unpack.specs.Put.{Places}
+use Rattle.text.specs.Decimal.{naturalIn, natural, decimal}
+use Rattle.text.specs.Put.{Places}
 
 -- the last k + 1 digits: those of the tenth part, and the last
 pub last-digits : (k n : ℕ) → digits 10 (suc k) n ≡ digits 10 k (n / 10) ++ ((48 + n % 10) ∷ [])

@@ -4,7 +4,7 @@ use mathlib.Core.List.{List, _++_}
 use Prim.Native.Nat.{ℕ, _+_, _≤_}
 use lib.ListN.{take}
 use Rattle.io.specs.Digits.{digits}
-use Rattle.unpack.specs.Decimal.{natural}
+use Rattle.text.specs.Decimal.{natural}
 
 -- the buffer has the text from `at` up to r, at most `most` bytes, behind what it had before `at`
 pub record Put (before : List ℕ) (at most : ℕ) (text after : List ℕ) (r : ℕ) : Type 0 where

@@ -1,4 +1,4 @@
--- `unpack::signed_byte` meets its contract. Assumes nothing.
+-- `text::signed_byte` meets its contract. Assumes nothing.
 use Prim.Native.Nat.{ℕ, _-_, _≤_}
 use lib.IntN.{pos, _-ℤ_}
 use mir.Syntax.{w8}
@@ -6,8 +6,8 @@ use mir.Val.{SFits}
 use borrow.Author.Needs.{needs}
 use borrow.Author.Tests.{lt-ltb, le-ltb}
 use Rattle.intops.proofs.Signed.{signed, signed!, back, ud-minus}
-use Rattle.unpack.proofs.signed_byte.Statement.{statement}
-use Rattle.unpack.proofs.signed_byte.Tie as tie
+use Rattle.text.proofs.signed_byte.Statement.{statement}
+use Rattle.text.proofs.signed_byte.Tie as tie
 
 -- each number on the way fits
 steps : (n : ℕ) → n ≤ 127 → SFits w8 (pos n) × SFits w8 (pos 0 -ℤ pos n) × SFits w8 (pos 0 -ℤ pos n -ℤ pos 1)

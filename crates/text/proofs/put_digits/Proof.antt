@@ -1,4 +1,4 @@
--- `unpack::put_digits` meets its contract. The invariant: with the digits that are still to come, what is put makes the whole (`Spelt`). The measure is how many are to come. Assumes nothing.
+-- `text::put_digits` meets its contract. The invariant: with the digits that are still to come, what is put makes the whole (`Spelt`). The measure is how many are to come. Assumes nothing.
 use mathlib.Core.List.{_++_}
 use mathlib.Core.Path.{_≡_, refl, _∙_}
 use Prim.Native.Nat.{_≤_}
@@ -6,9 +6,9 @@ use native.Mathlib.Omega.{arith}
 use lib.ListN.{take, length, length-set}
 use borrow.Author.Needs.{needs}
 use Rattle.io.specs.Digits.{digits}
-use Rattle.unpack.proofs.Put.{Spelt, spelt-none, spelt-more, spelt-all}
-use Rattle.unpack.proofs.put_digits.Statement.{statement}
-use Rattle.unpack.proofs.put_digits.Tie as tie
+use Rattle.text.proofs.Put.{Spelt, spelt-none, spelt-more, spelt-all}
+use Rattle.text.proofs.put_digits.Statement.{statement}
+use Rattle.text.proofs.put_digits.Tie as tie
 
 abbrev Inv-loop : tie.InvT-loop
 Inv-loop m out₀ at n i₀ rest₀ out i rest = (length out ≡ length out₀) × (i ≤ n) × Spelt (take at out₀ ++ digits 10 n m) at n i rest out

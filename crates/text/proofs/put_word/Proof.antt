@@ -1,12 +1,12 @@
--- `unpack::put_word` meets its contract. The invariant: the first i bytes of the word are put (`Copied`). The measure is what is left of the word. Assumes nothing.
+-- `text::put_word` meets its contract. The invariant: the first i bytes of the word are put (`Copied`). The measure is what is left of the word. Assumes nothing.
 use mathlib.Core.Path.{_≡_, refl}
 use Prim.Native.Nat.{_-_, _≤_}
 use native.Mathlib.Omega.{arith}
 use lib.ListN.{length, length-set}
 use borrow.Author.Needs.{needs}
-use Rattle.unpack.proofs.Put.{Copied, copied-none, copied-more, copied-all}
-use Rattle.unpack.proofs.put_word.Statement.{statement}
-use Rattle.unpack.proofs.put_word.Tie as tie
+use Rattle.text.proofs.Put.{Copied, copied-none, copied-more, copied-all}
+use Rattle.text.proofs.put_word.Statement.{statement}
+use Rattle.text.proofs.put_word.Tie as tie
 
 abbrev Inv-loop : tie.InvT-loop
 Inv-loop word out₀ at i₀ out i = (length out ≡ length out₀) × (i ≤ length word) × Copied out₀ at i word out

@@ -1,7 +1,7 @@
--- Whole numbers as decimal text, in ASCII. Assumes nothing.
+-- Whole numbers as decimal text, in ASCII, and bytes as signed numbers. Assumes nothing.
 use mathlib.Core.Bool.{cond}
 use mathlib.Core.List.{List, [], _∷_, _++_}
-use Prim.Native.Nat.{ℕ, zero, suc, _+_, _/_, _%_}
+use Prim.Native.Nat.{ℕ, zero, suc, _+_, _-_, _/_, _%_}
 use lib.Dec.{ltb}
 use lib.IntN.{ℤ, pos, negsuc}
 
@@ -18,3 +18,7 @@ natural n = naturalIn (suc n) n
 unfoldable pub decimal : ℤ → List ℕ
 decimal (pos n) = natural n
 decimal (negsuc n) = 45 ∷ natural (suc n)
+
+-- a byte as a signed number of eight bits: from 128 on, less 256
+abbrev pub signedByte : ℕ → ℤ
+signedByte b = cond (ltb b 128) (pos b) (negsuc (255 - b))

@@ -8,8 +8,8 @@ use native.Mathlib.Omega.{arith}
 use lib.ListN.{length, take, drop, set, getD}
 use lib.Seq.{append-snoc, take-suc-set, take-suc, take-set-le, take-add, take-length, set-split, drop-at, length-take-le}
 use Rattle.io.specs.Digits.{digits}
-use Rattle.unpack.specs.Put.{Put}
-use Rattle.unpack.proofs.Decimal.{last-digits}
+use Rattle.text.specs.Put.{Put}
+use Rattle.text.proofs.Decimal.{last-digits}
 
 -- two pieces are one
 pub put-then : {before middle after s t : List ℕ} {at j k q r : ℕ} → Put before at j s middle q → Put middle q k t after r → Put before at (j + k) (s ++ t) after r

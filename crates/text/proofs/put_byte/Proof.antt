@@ -1,8 +1,8 @@
--- `unpack::put_byte` meets its contract. Assumes nothing.
+-- `text::put_byte` meets its contract. Assumes nothing.
 use borrow.Author.Needs.{needs}
-use Rattle.unpack.proofs.Put.{put-one}
-use Rattle.unpack.proofs.put_byte.Statement.{statement}
-use Rattle.unpack.proofs.put_byte.Tie as tie
+use Rattle.text.proofs.Put.{put-one}
+use Rattle.text.proofs.put_byte.Statement.{statement}
+use Rattle.text.proofs.put_byte.Tie as tie
 
 slice-write-out : tie.Need-slice-write-out
 slice-write-out c = search needs

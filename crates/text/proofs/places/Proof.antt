@@ -1,8 +1,8 @@
--- `unpack::places` meets its contract: one law over the number of digits. Assumes nothing.
+-- `text::places` meets its contract: one law over the number of digits. Assumes nothing.
 use native.Mathlib.Omega.{arith}
-use Rattle.unpack.proofs.Decimal.{one-place, more-places}
-use Rattle.unpack.proofs.places.Statement.{statement}
-use Rattle.unpack.proofs.places.Tie as tie
+use Rattle.text.proofs.Decimal.{one-place, more-places}
+use Rattle.text.proofs.places.Statement.{statement}
+use Rattle.text.proofs.places.Tie as tie
 
 returns : tie.Need-returns
 returns c = one-place (c .before .args .m) (c .if1 .taken)
