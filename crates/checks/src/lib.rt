@@ -138,19 +138,19 @@ fn edge_of(f: Frame) -> usize
     }
 }
 
-fn wide_of(f: Frame) -> usize
+pub fn wide_of(f: Frame) -> usize
     ensures { λ r. ⌜ r ≡ wideOf f ⌝ }
 {
     (f.width as usize + 7) / 8
 }
 
-fn high_of(f: Frame) -> usize
+pub fn high_of(f: Frame) -> usize
     ensures { λ r. ⌜ r ≡ highOf f ⌝ }
 {
     (f.height as usize + 7) / 8
 }
 
-fn stride_of(f: Frame) -> usize
+pub fn stride_of(f: Frame) -> usize
     ensures { λ r. ⌜ r ≡ strideOf f ⌝ }
 {
     (f.width as usize + 255) / 256 * 256 / 8

@@ -8,7 +8,7 @@ use native.Mathlib.Omega.{arith}
 use lib.ListN.{length, take, drop, set, getD}
 use lib.Seq.{append-snoc, take-suc-set, take-suc, take-set-le, take-add, take-length, set-split, drop-at, length-take-le}
 use Rattle.io.specs.Digits.{digits}
-use Rattle.text.specs.Put.{Put}
+use Rattle.text.specs.Put.{Put, joined}
 use Rattle.text.proofs.Decimal.{last-digits}
 
 -- two pieces are one
@@ -74,3 +74,16 @@ spelt-more {whole} {out} {at} {n} {i} {j} {rest} e k h s = record {
 
 pub spelt-all : {whole out : List ℕ} {at n rest : ℕ} → Spelt whole at n 0 rest out → take (at + n) out ≡ whole
 spelt-all {whole} {out} {at} {n} s = take-add at n out ∙ rw (sub-zero, add-zero) at (s .makes)
+
+-- ---- pieces of one kind, one behind the other: what is put, with the pieces that are still to come, is the whole
+
+pub joined-first : (f : ℕ → List ℕ) (n i : ℕ) → i < n → joined f (n - i) i ≡ f i ++ joined f (n - (i + 1)) (i + 1)
+unfolding joined
+joined-first f n i h = let e : n - i ≡ suc (n - (i + 1)) = omega arith in rw e
+
+pub joined-more : {out after whole : List ℕ} {at most r : ℕ} (f : ℕ → List ℕ) (n i : ℕ) → i < n → take at out ++ joined f (n - i) i ≡ whole → Put out at most (f i) after r → take r after ++ joined f (n - (i + 1)) (i + 1) ≡ whole
+joined-more {out} {after} {whole} {at} f n i h e p = rw (p .front, append-assoc, ← joined-first f n i h) e
+
+pub joined-all : {whole : List ℕ} (out : List ℕ) (at : ℕ) (f : ℕ → List ℕ) (n i : ℕ) → n ≤ i → take at out ++ joined f (n - i) i ≡ whole → take at out ≡ whole
+unfolding joined
+joined-all out at f n i h e = let z : n - i ≡ 0 = omega arith in sym (append-nil (take at out)) ∙ rw z at e

@@ -1,0 +1,165 @@
+// A frame file's bytes (docs/FRAME_FILE.md): its header, its tile columns, the rows of its planes.
+ghost use mathlib.Core.Path.{_≡_};
+ghost use Prim.Native.Nat.{_+_, _*_, _≤_};
+ghost use lib.ListN.{length};
+ghost use Rattle.framefile.specs.File.{isOn, wordAt, hintsAt, savedAt, allSaved, switchesAt, pocsOf, headerOf, isFrameFile, endsRead, rowPut};
+use frame::Header;
+use levels::OrderHint;
+use picks::Pocs;
+use picks::Saved;
+
+// The bytes before the tile columns' ends.
+pub const HEAD: usize = 103;
+
+// A switch is on where it is not 0.
+pub fn is_on(b: u8) -> bool
+    ensures { λ r. ⌜ r ≡ isOn b ⌝ }
+{
+    b != 0
+}
+
+fn wide(b: u8) -> u32
+    ensures { λ r. ⌜ (r ≡ b) × (r ≤ 255) ⌝ }
+{
+    b as u32
+}
+
+// Four bytes, the lowest first.
+fn word_at(b: &[u8], at: usize) -> u32
+    requires { ⌜ at + 4 ≤ length (now b) ⌝ }
+    ensures { λ r. ⌜ r ≡ wordAt (now (b .entry)) at ⌝ }
+{
+    let low = wide(b[at]) + 256 * wide(b[at + 1]);
+    let high = wide(b[at + 2]) + 256 * wide(b[at + 3]);
+    low + 65536 * high
+}
+
+fn hints_at(b: &[u8], at: usize) -> [OrderHint; 7]
+    requires { ⌜ at + 7 ≤ length (now b) ⌝ }
+    ensures { λ r. ⌜ r ≡ hintsAt (now (b .entry)) at ⌝ }
+{
+    let mut out = [OrderHint(0); 7];
+    for i in 0..7 {
+        let a = b[at + i];
+        out[i] = OrderHint(a);
+    }
+    out
+}
+
+// A slot's saved hints, and then their count.
+fn saved_at(b: &[u8], at: usize) -> Saved
+    requires { ⌜ at + 8 ≤ length (now b) ⌝ }
+    ensures { λ r. ⌜ r ≡ savedAt (now (b .entry)) at ⌝ }
+{
+    let ref_poc = hints_at(b, at);
+    let refcnt = b[at + 7];
+    Saved { ref_poc, refcnt }
+}
+
+fn all_saved(b: &[u8]) -> [Saved; 7]
+    requires { ⌜ 103 ≤ length (now b) ⌝ }
+    ensures { λ r. ⌜ r ≡ allSaved (now (b .entry)) ⌝ }
+{
+    let none = Saved {
+        ref_poc: [OrderHint(0); 7],
+        refcnt: 0,
+    };
+    let mut out = [none; 7];
+    for i in 0..7 {
+        let s = saved_at(b, 37 + 8 * i);
+        out[i] = s;
+    }
+    out
+}
+
+fn switches_at(b: &[u8], at: usize) -> [bool; 7]
+    requires { ⌜ at + 7 ≤ length (now b) ⌝ }
+    ensures { λ r. ⌜ r ≡ switchesAt (now (b .entry)) at ⌝ }
+{
+    let mut out = [false; 7];
+    for i in 0..7 {
+        let on = is_on(b[at + i]);
+        out[i] = on;
+    }
+    out
+}
+
+fn pocs_of(b: &[u8]) -> Pocs
+    requires { ⌜ 103 ≤ length (now b) ⌝ }
+    ensures { λ r. ⌜ r ≡ pocsOf (now (b .entry)) ⌝ }
+{
+    let nbits = word_at(b, 5);
+    let n_refs = word_at(b, 17) as usize;
+    let poc = OrderHint(b[29]);
+    let ref_poc = hints_at(b, 30);
+    let saved = all_saved(b);
+    Pocs {
+        nbits,
+        poc,
+        n_refs,
+        ref_poc,
+        saved,
+    }
+}
+
+pub fn header_of(b: &[u8]) -> Header
+    requires { ⌜ 103 ≤ length (now b) ⌝ }
+    ensures { λ r. ⌜ r ≡ headerOf (now (b .entry)) ⌝ }
+{
+    let width = word_at(b, 9);
+    let height = word_at(b, 13);
+    let tip = is_on(b[21]);
+    let sb128 = b[22];
+    let tmvp_sample_step = b[23];
+    let use_ref_frame_mvs = is_on(b[24]);
+    let has_bothside_refs = is_on(b[25]);
+    let tip_frame_mode = b[26];
+    let tip0 = text::signed_byte(b[27]);
+    let tip1 = text::signed_byte(b[28]);
+    let rp_ref = switches_at(b, 93);
+    let pocs = pocs_of(b);
+    Header {
+        width,
+        height,
+        sb128,
+        tmvp_sample_step,
+        tip,
+        use_ref_frame_mvs,
+        has_bothside_refs,
+        tip_frame_mode,
+        tip0,
+        tip1,
+        rp_ref,
+        pocs,
+    }
+}
+
+// Do the bytes begin with RMVF and version 1?
+pub fn is_frame_file(b: &[u8]) -> bool
+    requires { ⌜ 103 ≤ length (now b) ⌝ }
+    ensures { λ r. ⌜ r ≡ isFrameFile (now (b .entry)) ⌝ }
+{
+    (b[0] == b'R') & (b[1] == b'M') & (b[2] == b'V') & (b[3] == b'F') & (b[4] == 1)
+}
+
+// The ends of the first n tile columns.
+pub fn read_ends(b: &[u8], n: usize, ends: &mut [usize])
+    requires { ⌜ (4 * n ≤ length (now b)) × (n ≤ length (now ends)) ⌝ }
+    ensures { λ _. ⌜ now (ends .exit) ≡ endsRead (now (b .entry)) n (now (ends .entry)) ⌝ }
+{
+    for i in 0..n {
+        let end = word_at(b, 4 * i) as usize;
+        ends[i] = end;
+    }
+}
+
+// A row of blocks goes to its place in the planes.
+pub fn put_row(line: &[u8], planes: &mut [i8], at: usize)
+    requires { ⌜ at + length (now line) ≤ length (now planes) ⌝ }
+    ensures { λ _. ⌜ now (planes .exit) ≡ rowPut (now (line .entry)) at (now (planes .entry)) ⌝ }
+{
+    for i in 0..line.len() {
+        let v = text::signed_byte(line[i]);
+        planes[at + i] = v;
+    }
+}
