@@ -11,7 +11,7 @@ length-of-requires c κs = search needs
 
 returns : tie.Need-returns
 unfolding colourOf
-returns c = 
+returns c =
     let f = c .before .before .fits .y in
     let g = c .before .before .fits .x in
     let l = simp back at (c .before .length-of .ensures) in
@@ -37,7 +37,7 @@ dim-requires-3 c κs = search needs
 
 returns-2 : tie.Need-returns-2
 unfolding colourOf
-returns-2 c = 
+returns-2 c =
     let s = c .before .before .before .before .before .before .before .before in
     let f = s .fits .y in
     let g = s .fits .x in

@@ -20,7 +20,7 @@ add-result : tie.Need-add-result
 add-result c = search needs
 
 returns : tie.Need-returns
-returns c = 
+returns c =
     let f = c .before .before .fits .y in
     let g = c .before .before .fits .x in
     rw (simp back at (c .before .unsigned-abs .ensures), simp back at (c .unsigned-abs2 .ensures))

@@ -14,7 +14,7 @@ hatch-requires c κs = search needs
 
 returns : tie.Need-returns
 unfolding pixelOf
-returns c = 
+returns c =
     let f = c .before .before .fits .y in
     rw (eq-yes {w = w32} {b = pos 2097152} f (sfits-lit tt) (c .before .if1 .taken)) (c .hatch .ensures)
 
@@ -23,7 +23,7 @@ colour-of-requires c κs = search needs
 
 returns-2 : tie.Need-returns-2
 unfolding pixelOf
-returns-2 c = 
+returns-2 c =
     let f = c .before .before .fits .y in
     let g = c .before .before .fits .x in
     rw (eq-no {w = w32} {b = pos 2097152} f (sfits-lit tt) (c .before .if1 .left)) (simp back at (c .colour-of .ensures))

@@ -24,7 +24,7 @@ same-length c = search needs
 
 returns : tie.Need-returns
 unfolding cellLine
-returns c = 
+returns c =
     let f = c .before .before .before .before .before .before .before .before .before .before .before .fits .y in
     rw (eq-yes {w = w32} {b = pos 2097152} f (sfits-lit tt) (c .before .before .before .before .before .if1 .taken)) (put-within (omega arith) (put-then (c .before .before .before .before .before .before .before .before .put-place .ensures) (c .before .before .put-word .ensures)))
 
@@ -36,7 +36,7 @@ same-length-2 c = search needs
 
 returns-2 : tie.Need-returns-2
 unfolding cellLine
-returns-2 c = 
+returns-2 c =
     let f = c .before .before .before .before .before .before .before .before .before .before .fits .y in
     let g = c .before .before .before .before .before .before .before .before .before .before .fits .x in
     rw (eq-no {w = w32} {b = pos 2097152} f (sfits-lit tt) (c .before .before .before .before .if1 .left)) (put-then (c .before .before .before .before .before .before .before .put-place .ensures) (simp back at (c .before .before .put-vector .ensures)))
