@@ -3,10 +3,13 @@ use crate::expected::FACTOR_LIMIT;
 use crate::reference;
 use crate::rng::Rng;
 
+pub mod bad_frame;
 pub mod directed;
+pub mod frame;
 pub mod kept;
 pub mod load;
 mod refused;
+pub mod sample;
 pub mod setup;
 
 const MIN: i32 = i32::MIN;

@@ -2,7 +2,7 @@ use std::io;
 use std::process::ExitCode;
 
 use oracle::loads::{self, Sides};
-use oracle::{answers, antt, args, compare, definitions, kept, library, passes, unpack};
+use oracle::{answers, antt, args, compare, definitions, frames, kept, library, passes, unpack};
 
 const USAGE: &str = "usage: oracle compare [--seed N]
        oracle answers [--seed N]
@@ -18,6 +18,10 @@ const USAGE: &str = "usage: oracle compare [--seed N]
        oracle passes COUNT [--seed N]
        oracle passes --keep [--seed N]
        oracle passes --kept FILE
+       oracle frames write DIR COUNT [--seed N]
+       oracle frames compare PROGRAM COUNT [--seed N]
+       oracle frames sample > FILE
+       oracle frames show [text | picture] < FILE
        oracle unpack < BYTES
        oracle bytes COUNT [--seed N]";
 
@@ -61,11 +65,29 @@ fn run(args: &[String]) -> Option<io::Result<bool>> {
             let count = count.parse().ok()?;
             Some(Ok(passes::run(args::seed(rest)?, count)))
         }
+        ("frames", [word, rest @ ..]) => frames(word, rest),
         ("unpack", []) => Some(unpack::run().map(|()| true)),
         ("bytes", [count, rest @ ..]) => {
             let count = count.parse().ok()?;
             Some(unpack::write_random(args::seed(rest)?, count).map(|()| true))
         }
+        _ => None,
+    }
+}
+
+fn frames(word: &str, rest: &[String]) -> Option<io::Result<bool>> {
+    match (word, rest) {
+        ("write", [folder, count, rest @ ..]) => {
+            let count = count.parse().ok()?;
+            let written = frames::write(args::seed(rest)?, folder.as_ref(), count);
+            Some(written.map(|()| true))
+        }
+        ("compare", [program, count, rest @ ..]) => {
+            let count = count.parse().ok()?;
+            Some(frames::compare(args::seed(rest)?, program, count))
+        }
+        ("sample", []) => Some(frames::sample().map(|()| true)),
+        ("show", words) => Some(frames::show(words).map(|()| true)),
         _ => None,
     }
 }

@@ -342,7 +342,7 @@ enum Spread {
     Flat,
 }
 
-fn blocks(rng: &mut Rng, setup: &Frame, geometry: &Geometry) -> Vec<i8> {
+pub(super) fn blocks(rng: &mut Rng, setup: &Frame, geometry: &Geometry) -> Vec<i8> {
     let spread = match rng.word() % 8 {
         0 | 1 => Spread::Any,
         2 => Spread::Short(rng.within(1, 96)),

@@ -1,4 +1,6 @@
 //! The published load over lent slices.
+use super::setup;
+use crate::entry::Header;
 use crate::headers::{FrameHeader, SequenceHeader};
 use crate::levels::{Mv, RefPair};
 use crate::load::{BLOCK_BYTES, Call, Geometry, MAP_PLANES, SLOTS, Store};
@@ -25,6 +27,15 @@ impl Held {
         let mut frame = sized(call);
         hand_setup(call, &mut frame);
         hand_planes(call, &geometry, &mut frame);
+        hand_store(store, &geometry, &mut frame);
+        Self { frame, geometry }
+    }
+
+    /// The frame as the published setup of the header leaves it; the call is one of its tiles, in whole-frame mode.
+    pub fn set_up(header: &Header, call: &Call, store: &Store) -> Self {
+        let geometry = call.geometry();
+        let planes = std::array::from_fn(|slot| plane(call, &geometry, slot));
+        let mut frame = setup::whole_frame(header, planes);
         hand_store(store, &geometry, &mut frame);
         Self { frame, geometry }
     }
@@ -207,18 +218,23 @@ fn hand_setup(call: &Call, frame: &mut Frame) {
 }
 
 fn hand_planes(call: &Call, geometry: &Geometry, frame: &mut Frame) {
-    let size = geometry.high * geometry.stride * BLOCK_BYTES;
-    let planes = call.planes.chunks_exact(size).take(SLOTS);
-    for (slot, plane) in planes.enumerate() {
-        if call.setup.rp_ref[slot] == 0 {
-            continue;
-        }
-        let blocks = plane.chunks_exact(BLOCK_BYTES).map(|b| TemporalBlock {
-            mv: TemporalBlockMv::from_mvs(QMv { c: [b[0], b[1]] }, QMv { c: [b[2], b[3]] }),
-            reference: RefPair::from_refs(b[4], b[5]),
-        });
-        frame.rp_ref[slot] = blocks.collect();
+    for slot in 0..SLOTS {
+        frame.rp_ref[slot] = plane(call, geometry, slot).unwrap_or_default();
     }
+}
+
+/// A slot's plane, where the setup has it.
+fn plane(call: &Call, geometry: &Geometry, slot: usize) -> Option<Vec<TemporalBlock>> {
+    if call.setup.rp_ref[slot] == 0 {
+        return None;
+    }
+    let size = geometry.high * geometry.stride * BLOCK_BYTES;
+    let bytes = &call.planes[slot * size..(slot + 1) * size];
+    let blocks = bytes.chunks_exact(BLOCK_BYTES).map(|b| TemporalBlock {
+        mv: TemporalBlockMv::from_mvs(QMv { c: [b[0], b[1]] }, QMv { c: [b[2], b[3]] }),
+        reference: RefPair::from_refs(b[4], b[5]),
+    });
+    Some(blocks.collect())
 }
 
 fn hand_store(store: &Store, geometry: &Geometry, frame: &mut Frame) {

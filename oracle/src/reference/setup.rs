@@ -8,6 +8,18 @@ pub fn init_frame(header: &Header) -> entry::Frame {
     Decoder::default().init_frame(header)
 }
 
+/// The published frame itself, with these planes, set up for loads in whole-frame mode.
+pub(super) fn whole_frame(header: &Header, planes: [Option<Vec<TemporalBlock>>; 7]) -> Frame {
+    let mut decoder = Decoder {
+        frame: Frame::default(),
+        ..Decoder::default()
+    };
+    decoder.prepare(header);
+    decoder.planes = planes;
+    decoder.run(true);
+    decoder.frame
+}
+
 /// What a decoder keeps from frame to frame, and the arguments of the next setup.
 pub struct Decoder {
     seq_hdr: SequenceHeader,
@@ -46,7 +58,7 @@ impl Decoder {
     /// The record of a header that the scope accepts; what is not written stays as it was.
     pub fn init_frame(&mut self, header: &Header) -> entry::Frame {
         self.prepare(header);
-        self.run();
+        self.run(false);
         self.record(header)
     }
 
@@ -71,7 +83,7 @@ impl Decoder {
         self.planes = header.rp_ref.map(|present| (present != 0).then(Vec::new));
     }
 
-    fn run(&mut self) {
+    fn run(&mut self, whole_frame: bool) {
         refmvs::init_frame(
             &mut self.frame,
             &self.seq_hdr,
@@ -81,7 +93,7 @@ impl Decoder {
             &self.refcnt,
             &self.planes,
             false,
-            false,
+            whole_frame,
         )
         .unwrap();
     }
