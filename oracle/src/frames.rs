@@ -64,15 +64,9 @@ pub fn write(seed: u64, folder: &Path, count: u64) -> io::Result<()> {
 /// What the program answers on every file. Tells whether all agreed.
 pub fn compare(seed: u64, program: &str, count: u64) -> io::Result<bool> {
     let mut compare = Compare::new(program)?;
-    compare.usage()?;
-    for stated in bad_frame::all() {
-        compare.stated(&stated)?;
-    }
-    let mut rng = Rng::new(seed);
-    for n in 1..=count {
-        compare.random(n, rng.word())?;
-    }
-    compare.report()
+    let all = compare.all(seed, count);
+    compare.tidy()?;
+    all.map(|()| compare.report())
 }
 
 struct Compare {
@@ -99,6 +93,26 @@ impl Compare {
         })
     }
 
+    fn all(&mut self, seed: u64, count: u64) -> io::Result<()> {
+        self.usage()?;
+        for stated in bad_frame::all() {
+            self.stated(&stated)?;
+        }
+        let mut rng = Rng::new(seed);
+        for n in 1..=count {
+            self.random(n, rng.word())?;
+        }
+        Ok(())
+    }
+
+    /// Only files that differ stay.
+    fn tidy(&self) -> io::Result<()> {
+        if self.differences == 0 {
+            return fs::remove_dir_all(&self.folder);
+        }
+        fs::remove_file(self.folder.join("input"))
+    }
+
     fn usage(&mut self) -> io::Result<()> {
         let file = sample::file().bytes();
         for words in bad_frame::USAGE {
@@ -115,15 +129,14 @@ impl Compare {
             bytes,
             problem,
         } = stated;
-        let wanted = shown(bytes, Form::Text);
-        assert_eq!(wanted.as_ref().err(), problem.as_ref(), "{name}");
         match problem {
             Some(problem) => self.problem(*problem),
             None => self.count("frames at a limit or with a trap"),
         }
-        self.answer(name, &[], bytes, &wanted)?;
-        if problem.is_some() {
-            self.answer(name, &["picture"], bytes, &wanted)?;
+        for (form, words) in [(Form::Text, &[][..]), (Form::Picture, &["picture"])] {
+            let wanted = shown(bytes, form);
+            assert_eq!(wanted.as_ref().err(), problem.as_ref(), "{name}");
+            self.answer(name, words, bytes, &wanted)?;
         }
         Ok(())
     }
@@ -192,12 +205,15 @@ impl Compare {
         let mut command = Command::new(&self.program);
         command.args(words);
         command.stdout(Stdio::piped()).stderr(Stdio::piped());
+        let named =
+            |error: io::Error| io::Error::new(error.kind(), format!("{}: {error}", self.program));
         if self.runs.is_multiple_of(PIPES) {
-            return through_pipe(command.stdin(Stdio::piped()).spawn()?, bytes);
+            let child = command.stdin(Stdio::piped()).spawn();
+            return through_pipe(child.map_err(named)?, bytes);
         }
         let input = self.folder.join("input");
         fs::write(&input, bytes)?;
-        command.stdin(File::open(input)?).output()
+        command.stdin(File::open(input)?).output().map_err(named)
     }
 
     fn count(&mut self, what: &str) {
@@ -246,7 +262,7 @@ impl Compare {
         self.add("vectors in the field", u64::from(vectors > 0));
     }
 
-    fn report(&self) -> io::Result<bool> {
+    fn report(&self) -> bool {
         for (what, count) in &self.counts {
             println!("{count:>9}  {what}");
         }
@@ -254,11 +270,7 @@ impl Compare {
             "frames: {} runs, {} bytes compared, {} differences",
             self.runs, self.bytes, self.differences
         );
-        fs::remove_file(self.folder.join("input"))?;
-        if self.differences == 0 {
-            fs::remove_dir(&self.folder)?;
-        }
-        Ok(self.differences == 0)
+        self.differences == 0
     }
 }
 

@@ -224,8 +224,12 @@ fn columns(list: &mut List) {
         ends: ends.to_vec(),
         ..base()
     };
+    let name = |ends: &[u32]| match ends.len() {
+        255 => format!("255 columns of {}", ends[0]),
+        _ => format!("columns {ends:?}"),
+    };
     for ends in [&[38][..], &[16, 38], &[32, 38], &[16, 32, 38]] {
-        list.shown(format!("columns {ends:?}"), &file(ends));
+        list.shown(name(ends), &file(ends));
     }
     for ends in [
         &[][..],
@@ -243,7 +247,7 @@ fn columns(list: &mut List) {
         &[38; 255].map(|end| end + 1),
     ] {
         let bytes = file(ends).bytes();
-        list.bad(format!("columns {ends:?}"), bytes, Problem::TileColumns);
+        list.bad(name(ends), bytes, Problem::TileColumns);
     }
     for ends in [
         &[15, 38][..],
@@ -262,7 +266,7 @@ fn columns(list: &mut List) {
         &[38; 255],
     ] {
         let bytes = file(ends).bytes();
-        list.bad(format!("columns {ends:?}"), bytes, Problem::Load(10));
+        list.bad(name(ends), bytes, Problem::Load(10));
     }
 }
 

@@ -9,6 +9,7 @@ use crate::rng::Rng;
 
 /// One frame in so many may be as large as frames are shown.
 const LARGE: u64 = 50;
+const NO_PLANES: u64 = 16;
 
 /// All from the seed.
 pub fn random(seed: u64) -> FrameFile {
@@ -18,6 +19,9 @@ pub fn random(seed: u64) -> FrameFile {
         true => setup::random(rng),
         false => near(rng),
     };
+    if rng.one_in(NO_PLANES) {
+        header.rp_ref = [0; 7];
+    }
     (header.width, header.height) = size(rng);
     of_header(rng, header)
 }
