@@ -2,7 +2,7 @@
 use mathlib.Core.Path.{_≡_}
 use mathlib.Core.Bool.{Bool, true, cond}
 use mathlib.Core.List.{List, [], _∷_, _++_}
-use Prim.Native.Nat.{ℕ, zero, suc, _+_, _-_, _/_}
+use Prim.Native.Nat.{ℕ, zero, suc, _+_, _-_, _*_, _/_}
 use lib.Dec.{eqb}
 use lib.IntN.{ℤ}
 use Rattle.frame.specs.declared.Frame.{Frame}
@@ -12,20 +12,24 @@ use Rattle.load.specs.Load.{Call, sideOf, highOf}
 use Rattle.load.specs.Calls.{answer, load}
 use Rattle.checks.specs.Code.{callOf}
 
+-- H / S superblock rows, rounded up
+abbrev pub rowsOf : Frame → ℕ
+rowsOf f = (highOf f + (sideOf f - 1)) / sideOf f
+
 module _ (f : Frame) (traj holes : Bool) (planes : List ℤ) where
   -- the calls of a superblock row, from left to right: a tile column begins where the one before it ends
   unfoldable pub rowCalls : ℕ → ℕ → List ℕ → List Call
   rowCalls row start [] = []
   rowCalls row start (end ∷ ends) = callOf f true traj holes start end row (row + sideOf f) planes ∷ rowCalls row end ends
 
-  -- those of n superblock rows, downwards
+  -- those of n superblock rows from row i on, downwards
   unfoldable pub rowsCalls : List ℕ → ℕ → ℕ → List Call
-  rowsCalls ends zero row = []
-  rowsCalls ends (suc n) row = rowCalls row 0 ends ++ rowsCalls ends n (row + sideOf f)
+  rowsCalls ends zero i = []
+  rowsCalls ends (suc n) i = rowCalls (i * sideOf f) 0 ends ++ rowsCalls ends n (i + 1)
 
-  -- those of the frame: H / S rows, rounded up
+  -- those of the frame
   unfoldable pub frameCalls : List ℕ → List Call
-  frameCalls ends = rowsCalls ends ((highOf f + (sideOf f - 1)) / sideOf f) 0
+  frameCalls ends = rowsCalls ends (rowsOf f) 0
 
 -- an answer's number, and the store beside it
 pub record After : Type 0 where

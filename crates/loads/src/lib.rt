@@ -80,9 +80,8 @@ pub fn load_frame(
         (pack (now («field_y» .entry)) (now («field_x» .entry)) (now («field_ref» .entry)) (now («traj_y» .entry)) (now («traj_x» .entry)) (now («map_y» .entry)) (now («map_x» .entry))) ⌝ }
 {
     let side = checks::side_of(setup);
-    let high = checks::high_of(setup);
-    let mut row = 0;
-    while row < high {
+    let rows = (checks::high_of(setup) + (side - 1)) / side;
+    for i in 0..rows {
         let said = load_row(
             field_y,
             field_x,
@@ -96,12 +95,11 @@ pub fn load_frame(
             traj,
             holes,
             ends,
-            row,
+            i * side,
         );
         if checks::number(said) != 0 {
             return said;
         }
-        row += side;
     }
     LoadAnswer::Loaded
 }
