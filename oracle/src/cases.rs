@@ -3,9 +3,9 @@ use crate::expected::FACTOR_LIMIT;
 use crate::reference;
 use crate::rng::Rng;
 
-pub mod bad_frame;
 pub mod directed;
 pub mod frame;
+pub mod frame_limits;
 pub mod kept;
 pub mod load;
 mod refused;

@@ -61,10 +61,9 @@ fn reason(number: u32) -> &'static str {
         6 => "step not 1 or 2",
         7 => "width or height not 1..65536",
         8 => "TIP slot not a slot in use",
-        9 => "setup out of range",
         10 => "a tile's columns or rows",
-        11 => "planes or store too short",
-        _ => "a saved block out of range",
+        12 => "a saved block out of range",
+        _ => unreachable!("no file is refused with {number}"),
     }
 }
 

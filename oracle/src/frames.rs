@@ -6,7 +6,7 @@ use std::path::{Path, PathBuf};
 use std::process::{self, Child, Command, Output, Stdio};
 use std::{env, thread};
 
-use crate::cases::bad_frame::{self, Stated};
+use crate::cases::frame_limits::{self, Stated};
 use crate::cases::{frame as cases, sample};
 use crate::frame_file::{FrameFile, Problem};
 use crate::rng::Rng;
@@ -16,8 +16,8 @@ const PRINTED_DIFFERENCES: u64 = 10;
 /// One random file in so many is also shown as a picture; one in so many is changed and run besides.
 const PICTURES: u64 = 4;
 const CHANGED: u64 = 2;
-/// One file in so many comes through a pipe, in pieces.
-const PIPES: u64 = 4;
+/// One run in so many reads from a pipe, in pieces.
+const PIPES: u64 = 5;
 const PIECE: usize = 1_000;
 
 /// The sample's bytes to standard output.
@@ -95,7 +95,7 @@ impl Compare {
 
     fn all(&mut self, seed: u64, count: u64) -> io::Result<()> {
         self.usage()?;
-        for stated in bad_frame::all() {
+        for stated in frame_limits::all() {
             self.stated(&stated)?;
         }
         let mut rng = Rng::new(seed);
@@ -115,7 +115,7 @@ impl Compare {
 
     fn usage(&mut self) -> io::Result<()> {
         let file = sample::file().bytes();
-        for words in bad_frame::USAGE {
+        for words in frame_limits::USAGE {
             self.count("refused words");
             self.answer("the sample", words, &file, &Err(Problem::Usage))?;
         }
