@@ -37,18 +37,18 @@ module _ (t : Tile) (traj : Bool) (v : Mv) (y x : ℕ) (s : Source) (b : ℕ) (u
     unfolding projectMv
     lands-on l y₁ x₁ ye xe u′ p = p ∙ rw (h, e, l, ye, xe)
 
--- what a source says of reference b, from its lists
+-- what a source says of reference b, from its lists: the numbers that the code has
 pub numbers : (t : Tile) (planes : List ℤ) (s : Source) (b n : ℕ) (g : ℤ) (h : ℕ) (part ds is fs gs : List ℤ) → Lent t planes s n g h part ds is fs gs
-    → Numbers s b n g h (getD ds b (pos 0)) (getD is b (pos 0)) (getD fs b (pos 0)) (getD gs b (pos 0))
-numbers t planes s b n g h part ds is fs gs l =
+    → (g′ d i f f₁ : ℤ) → g′ ≡ g → d ≡ getD ds b (pos 0) → i ≡ getD is b (pos 0) → f ≡ getD fs b (pos 0) → f₁ ≡ getD gs b (pos 0) → Numbers s b n g′ h d i f f₁
+numbers t planes s b n g h part ds is fs gs l g′ d i f f₁ ge de ie fe f₁e =
     record {
       slot = l .slot;
-      tgt = l .tgt;
+      tgt = l .tgt ∙ sym ge;
       dir = l .dir;
-      distance = ap (λ (z : List ℤ). getD z b (pos 0)) (l .ref2ref);
-      idx = ap (λ (z : List ℤ). getD z b (pos 0)) (l .ref2idx);
-      first = ap (λ (z : List ℤ). getD z b (pos 0)) (l .ref2sf0);
-      second = ap (λ (z : List ℤ). getD z b (pos 0)) (l .ref2sf1);
+      distance = ap (λ (z : List ℤ). getD z b (pos 0)) (l .ref2ref) ∙ sym de;
+      idx = ap (λ (z : List ℤ). getD z b (pos 0)) (l .ref2idx) ∙ sym ie;
+      first = ap (λ (z : List ℤ). getD z b (pos 0)) (l .ref2sf0) ∙ sym fe;
+      second = ap (λ (z : List ℤ). getD z b (pos 0)) (l .ref2sf1) ∙ sym f₁e;
     }
 
 -- a sampled block

@@ -5,6 +5,7 @@ use native.Mathlib.Omega.{arith}
 use lib.IntN.{ℤ, pos, natAbs}
 use lib.ListN.{getD}
 use lib.Signed.{ltZ}
+use mir.Facts.{toZ-ofZ}
 use Rattle.intops.proofs.Signed.{back}
 use borrow.Author.Tests.{not-true, not-false}
 use mathlib.Core.Bool.{cond}
@@ -79,34 +80,34 @@ put-requires : tie.Need-put-requires
 put-requires c κs = let h = c .before .before .before .before .before .before .before .before .before .before .before .before .before .before .before .before .before .before .before .before .before .before .pre .1 .0 in (omega (arith, low (c .before .before .before .before .before .before .before .before .before .before .before .before .before .before .before .before .before .before .before .before), h .y), omega (arith, low (c .before .before .before .before .before .before .before .before .before .before .before .before .before .before .before .before .before .before .before .before), h .x), omega (arith, low (c .before .before .before .before .before .before .before .before .before .before .before .before .before .before .before .before .before .before .before .before), h .ref))
 
 same-length-3 : tie.Need-same-length-3
-same-length-3 c = search needs
+same-length-3 c = c .before .before .before .before .put .kept .0
 
 same-length-4 : tie.Need-same-length-4
-same-length-4 c = search needs
+same-length-4 c = c .before .before .before .before .put .kept .1 .0
 
 same-length-5 : tie.Need-same-length-5
-same-length-5 c = search needs
+same-length-5 c = c .before .before .before .before .put .kept .1 .1 .0
 
 same-length-6 : tie.Need-same-length-6
-same-length-6 c = search needs
+same-length-6 c = c .before .before .before .before .before .before .before .before .before .before .before .before .before .put-trajs .kept .0
 
 same-length-7 : tie.Need-same-length-7
-same-length-7 c = search needs
+same-length-7 c = c .before .before .before .before .before .before .before .before .before .before .before .before .before .put-trajs .kept .1 .0
 
 same-length-8 : tie.Need-same-length-8
-same-length-8 c = search needs
+same-length-8 c = c .before .before .before .before .before .before .before .before .before .before .before .before .before .put-trajs .kept .1 .1 .0
 
 same-length-9 : tie.Need-same-length-9
-same-length-9 c = search needs
+same-length-9 c = c .before .before .before .before .before .before .before .before .before .before .before .before .before .put-trajs .kept .1 .1 .1 .0
 
 returns-2 : tie.Need-returns-2
 returns-2 c =
-    let s = c .before .before .before .before .before .before .before .before .before .before .before .before .before .before .before .before .before .before .before .before .before .before .before .before .before .before .before in let a = s .args in let f = s .fits .idx in let g = s .fits .sf in let h = s .fits .d in
-    let p = simp back at (c .before .before .before .before .before .before .before .before .before .before .before .before .before .put-trajs .ensures) in let w = simp back at (c .before .before .before .before .before .before .before .before .turned-by .ensures) in
+    let s = c .before .before .before .before .before .before .before .before .before .before .before .before .before .before .before .before .before .before .before .before .before .before .before .before .before .before .before in let a = s .args in let k = c .before .before .before .before .before .before .before .before .before .before .before .before .before .before .before .before .before .before .before in
     λ q b te de e.
     mv-on (a .t) (s .pre .0 .0) (a .traj) (a .v) (a .y) (a .x) (a .y1) (a .x1) (s .pre .0 .3 .own) (a .field-y .now) (a .field-x .now) (a .field-ref .now) (a .traj-y .now) (a .traj-x .now) (a .map-y .now) (a .map-x .now)
-    q b (took (c .before .before .before .before .before .before .before .before .before .before .before .before .before .before .before .before .before .before .before) q b te de (e .idx) ∙ not-false (c .before .before .before .before .before .before .before .before .before .before .before .before .before .before .before .before .before .before .before .takes .result) (c .before .before .before .before .before .before .before .before .before .before .before .before .before .before .before .before .before .before .if1 .left)) _ _ _ _ _ _ _ (p q b e) _ _ _ (c .before .before .before .before .before .before .before .before .before .before .before .before .before .before .before .before .before .before .before .before .before .before .before .before .before .field-at .ensures)
-    (w ∙ ap (λ (z : ℤ). cond (ltZ z (pos 0)) (turned (a .v)) (a .v)) (sym de)) (dist-is (c .before .before .before .before .before .before .before .before .before .before .before .before .before .before .before .before .before .before .before .before .before) ∙ ap natAbs (sym de)) (c .before .before .before .before .put .ensures)
+    q b (took k q b te de (e .idx) ∙ not-false (k .takes .result) (c .before .before .before .before .before .before .before .before .before .before .before .before .before .before .before .before .before .before .if1 .left)) _ _ _ _ _ _ _
+    (c .before .before .before .before .before .before .before .before .before .before .before .before .before .put-trajs .ensures q b (record { slot = e .slot; idx = e .idx ∙ sym (toZ-ofZ (s .fits .idx)); vector = e .vector; factor = e .factor ∙ sym (toZ-ofZ (s .fits .sf)) })) _ _ _ (c .before .before .before .before .before .before .before .before .before .before .before .before .before .before .before .before .before .before .before .before .before .before .before .before .before .field-at .ensures)
+    (c .before .before .before .before .before .before .before .before .turned-by .ensures ∙ ap (λ (z : ℤ). cond (ltZ z (pos 0)) (turned (a .v)) (a .v)) (toZ-ofZ (s .fits .d) ∙ sym de)) (dist-is (c .before .before .before .before .before .before .before .before .before .before .before .before .before .before .before .before .before .before .before .before .before) ∙ ap natAbs (sym de)) (c .before .before .before .before .put .ensures)
 
 pub put-mv-spec : {M : Type 1} → statement M
 put-mv-spec =

@@ -1,5 +1,5 @@
 -- `put::put_trajs` meets its contract. Assumes nothing.
-use mathlib.Core.Path.{_≡_}
+use mathlib.Core.Path.{_≡_, _∙_}
 use mathlib.Core.Bool.{true, false}
 use Prim.Native.Nat.{_-_}
 use native.Mathlib.Omega.{arith}
@@ -28,16 +28,16 @@ enter-place-requires : tie.Need-enter-place-requires
 enter-place-requires c κs = let s = c .before .before .before .before .before .before .before .before in let k = s .pre .0 .0 in let l = s .pre .0 .3 in ((k, s .pre .0 .1, omega (arith, l .bottom, k .rows, k .frameEnd, k .highLow, k .sideLow), l .own, l .col, s .pre .1 .1), (omega (arith, l .rows), omega (arith, l .rows), l .right, l .left))
 
 same-length : tie.Need-same-length
-same-length c = search needs
+same-length c = c .before .before .before .before .before .before .before .before .put-traj .kept .0
 
 same-length-2 : tie.Need-same-length-2
-same-length-2 c = search needs
+same-length-2 c = c .before .before .before .before .before .before .before .before .put-traj .kept .1 .0
 
 same-length-3 : tie.Need-same-length-3
-same-length-3 c = search needs
+same-length-3 c = c .before .before .before .enter-place .kept .0
 
 same-length-4 : tie.Need-same-length-4
-same-length-4 c = search needs
+same-length-4 c = c .before .before .before .enter-place .kept .1 .0
 
 returns-2 : tie.Need-returns-2
 returns-2 c =
@@ -69,16 +69,16 @@ enter-end-requires c κs =
     )
 
 same-length-5 : tie.Need-same-length-5
-same-length-5 c = search needs
+same-length-5 c = c .before .before .before .before .before .before .before .put-traj2 .kept .0 ∙ c .before .before .before .before .before .before .before .before .before .before .before .before .before .before .before .before .before .before .before .put-traj .kept .0
 
 same-length-6 : tie.Need-same-length-6
-same-length-6 c = search needs
+same-length-6 c = c .before .before .before .before .before .before .before .put-traj2 .kept .1 .0 ∙ c .before .before .before .before .before .before .before .before .before .before .before .before .before .before .before .before .before .before .before .put-traj .kept .1 .0
 
 same-length-7 : tie.Need-same-length-7
-same-length-7 c = search needs
+same-length-7 c = c .before .before .enter-end .kept .0 ∙ c .before .before .before .before .before .before .before .before .before .before .before .before .before .before .enter-place .kept .0
 
 same-length-8 : tie.Need-same-length-8
-same-length-8 c = search needs
+same-length-8 c = c .before .before .enter-end .kept .1 .0 ∙ c .before .before .before .before .before .before .before .before .before .before .before .before .before .before .enter-place .kept .1 .0
 
 returns-3 : tie.Need-returns-3
 returns-3 c =

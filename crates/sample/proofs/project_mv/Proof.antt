@@ -7,6 +7,7 @@ use lib.IntN.{ℤ, pos, negℤ, _-ℤ_}
 use lib.ListN.{getD}
 use mir.Syntax.{w32}
 use mir.Val.{SFits}
+use mir.Facts.{toZ-ofZ}
 use Rattle.intops.proofs.Signed.{back, zero-minus, within-sub, within-pos, fits-within}
 use borrow.Author.Tests.{not-true, not-false}
 use Rattle.intops.specs.Bounds.{Within}
@@ -79,33 +80,33 @@ put-mv-requires c κs =
     ((p .0, p .1, simp back (p .2), rw (x-is (c .before .before .before .before .before .before .before), y-is (c .before .before .before .before .before .before .before .before .before)) (landing (s .args .t) (p .0) (s .args .y) (s .args .x) (c .before .before .before .before .before .before .before .before .before .before .before .before .before .scaled .result) (p .3) (p .4) (p .5) (lands-is (c .before .before .before .before .before .before .before .before .before .before .before))), p .6, simp back (p .8)), s .pre .1)
 
 same-length : tie.Need-same-length
-same-length c = search needs
+same-length c = c .before .before .before .before .before .before .before .before .put-mv .kept .0
 
 same-length-2 : tie.Need-same-length-2
-same-length-2 c = search needs
+same-length-2 c = c .before .before .before .before .before .before .before .before .put-mv .kept .1 .0
 
 same-length-3 : tie.Need-same-length-3
-same-length-3 c = search needs
+same-length-3 c = c .before .before .before .before .before .before .before .before .put-mv .kept .1 .1 .0
 
 same-length-4 : tie.Need-same-length-4
-same-length-4 c = search needs
+same-length-4 c = c .before .before .before .before .before .before .before .before .put-mv .kept .1 .1 .1 .0
 
 same-length-5 : tie.Need-same-length-5
-same-length-5 c = search needs
+same-length-5 c = c .before .before .before .before .before .before .before .before .put-mv .kept .1 .1 .1 .1 .0
 
 same-length-6 : tie.Need-same-length-6
-same-length-6 c = search needs
+same-length-6 c = c .before .before .before .before .before .before .before .before .put-mv .kept .1 .1 .1 .1 .1 .0
 
 same-length-7 : tie.Need-same-length-7
-same-length-7 c = search needs
+same-length-7 c = c .before .before .before .before .before .before .before .before .put-mv .kept .1 .1 .1 .1 .1 .1 .0
 
 returns-3 : tie.Need-returns-3
 returns-3 c =
-    let s = c .before .before .before .before .before .before .before .before .before .before .before .before .before .before .before .before .before .before .before .before .before .before .before .before .before .before in let a = s .args in let f = s .fits .idx in let g = s .fits .sf1 in let h = s .fits .tgt in let i = s .fits .d in
-    let e = simp back at (c .before .before .before .before .before .before .before .before .put-mv .ensures) in
+    let s = c .before .before .before .before .before .before .before .before .before .before .before .before .before .before .before .before .before .before .before .before .before .before .before .before .before .before in let a = s .args in let w = c .before .before .before .before .before .before .before .before .before .before .before .before .before .before .before .before .before .before .before .before .before .before in
     λ q b m.
-    lands-on (a .t) (a .traj) (a .v) (a .y) (a .x) q b _ (side (c .before .before .before .before .before .before .before .before .before .before .before .before .before .before .before .before .before .before .before .before .before .before .before .before) q b m ∙ not-false (c .before .before .before .before .before .before .before .before .before .before .before .before .before .before .before .before .before .before .before .before .before .before .before .before .right-side .result) (c .before .before .before .before .before .before .before .before .before .before .before .before .before .before .before .before .before .before .before .before .before .before .before .if1 .left)) (c .before .before .before .before .before .before .before .before .before .before .before .before .before .before .before .before .before .before .before .before .before .before .scaled .result) (vector (c .before .before .before .before .before .before .before .before .before .before .before .before .before .before .before .before .before .before .before .before .before .before) q b (m .first))
-    (lands-is (c .before .before .before .before .before .before .before .before .before .before .before .before .before .before .before .before .before .before .before .before)) _ _ (y-is (c .before .before .before .before .before .before .before .before .before .before .before .before .before .before .before .before .before .before)) (x-is (c .before .before .before .before .before .before .before .before .before .before .before .before .before .before .before .before)) _ (e q b (m .tgt) (m .distance) (record { slot = m .slot; idx = m .idx; vector = vector (c .before .before .before .before .before .before .before .before .before .before .before .before .before .before .before .before .before .before .before .before .before .before) q b (m .first); factor = m .second }))
+    lands-on (a .t) (a .traj) (a .v) (a .y) (a .x) q b _ (side (c .before .before .before .before .before .before .before .before .before .before .before .before .before .before .before .before .before .before .before .before .before .before .before .before) q b m ∙ not-false (c .before .before .before .before .before .before .before .before .before .before .before .before .before .before .before .before .before .before .before .before .before .before .before .before .right-side .result) (c .before .before .before .before .before .before .before .before .before .before .before .before .before .before .before .before .before .before .before .before .before .before .before .if1 .left)) (w .scaled .result) (vector w q b (m .first))
+    (lands-is (c .before .before .before .before .before .before .before .before .before .before .before .before .before .before .before .before .before .before .before .before)) _ _ (y-is (c .before .before .before .before .before .before .before .before .before .before .before .before .before .before .before .before .before .before)) (x-is (c .before .before .before .before .before .before .before .before .before .before .before .before .before .before .before .before)) _
+    (c .before .before .before .before .before .before .before .before .put-mv .ensures q b (m .tgt ∙ sym (toZ-ofZ (s .fits .tgt))) (m .distance ∙ sym (toZ-ofZ (s .fits .d))) (record { slot = m .slot; idx = m .idx ∙ sym (toZ-ofZ (s .fits .idx)); vector = vector w q b (m .first); factor = m .second ∙ sym (toZ-ofZ (s .fits .sf1)) }))
 
 pub project-mv-spec : {M : Type 1} → statement M
 project-mv-spec =

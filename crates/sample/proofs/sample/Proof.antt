@@ -8,6 +8,7 @@ use lib.IntN.{ℤ, pos}
 use lib.ListN.{getD, drop}
 use mir.Syntax.{w8, w32}
 use mir.Val.{SFits}
+use mir.Facts.{toZ-ofZ}
 use Rattle.intops.proofs.Signed.{back}
 use Rattle.levels.specs.declared.Mv.{Mv}
 use Rattle.mv.specs.Projection.{pastRange}
@@ -105,36 +106,34 @@ project-mv-requires c κs =
     )
 
 same-length : tie.Need-same-length
-same-length c = search needs
+same-length c = c .before .before .before .before .before .before .before .before .project-mv .kept .0
 
 same-length-2 : tie.Need-same-length-2
-same-length-2 c = search needs
+same-length-2 c = c .before .before .before .before .before .before .before .before .project-mv .kept .1 .0
 
 same-length-3 : tie.Need-same-length-3
-same-length-3 c = search needs
+same-length-3 c = c .before .before .before .before .before .before .before .before .project-mv .kept .1 .1 .0
 
 same-length-4 : tie.Need-same-length-4
-same-length-4 c = search needs
+same-length-4 c = c .before .before .before .before .before .before .before .before .project-mv .kept .1 .1 .1 .0 ∙ c .before .before .before .before .before .before .before .before .before .before .before .before .before .before .before .before .before .before .before .before .intersect-at .kept .0
 
 same-length-5 : tie.Need-same-length-5
-same-length-5 c = search needs
+same-length-5 c = c .before .before .before .before .before .before .before .before .project-mv .kept .1 .1 .1 .1 .0 ∙ c .before .before .before .before .before .before .before .before .before .before .before .before .before .before .before .before .before .before .before .before .intersect-at .kept .1 .0
 
 same-length-6 : tie.Need-same-length-6
-same-length-6 c = search needs
+same-length-6 c = c .before .before .before .before .before .before .before .before .project-mv .kept .1 .1 .1 .1 .1 .0 ∙ c .before .before .before .before .before .before .before .before .before .before .before .before .before .before .before .before .before .before .before .before .intersect-at .kept .1 .1 .0
 
 same-length-7 : tie.Need-same-length-7
-same-length-7 c = search needs
+same-length-7 c = c .before .before .before .before .before .before .before .before .project-mv .kept .1 .1 .1 .1 .1 .1 .0 ∙ c .before .before .before .before .before .before .before .before .before .before .before .before .before .before .before .before .before .before .before .before .intersect-at .kept .1 .1 .1 .0
 
 returns-2 : tie.Need-returns-2
 returns-2 c =
-    let s = c .before .before .before .before .before .before .before .before .before .before .before .before .before .before .before .before .before .before .before .before .before .before .before .before .before .before .before .before .before .before .before .before .before .before .before in let a = s .args in let b = ref (c .before .before .before .before .before .before .before .before .before .before .before .before .before .before .before .before .before .before .before .before .before .before .before .before .before .before .before .before .before .before) in
-    let f = idx-fits (c .before .before .before .before .before .before .before .before .before .before .before .before .before .before .before .before .before .before .before .before .before .before .before .before .before .before .before) in let g = first-fits (c .before .before .before .before .before .before .before .before .before .before .before .before .before .before .before .before .before .before .before .before .before .before .before .before .before .before) in let i = second-fits (c .before .before .before .before .before .before .before .before .before .before .before .before .before .before .before .before .before .before .before .before .before .before .before .before .before) in let j = d-fits (c .before .before .before .before .before .before .before .before .before .before .before .before .before .before .before .before .before .before .before .before .before .before .before .before .before .before .before .before) in let k = s .fits .tgt in
-    let first = simp back at (c .before .before .before .before .before .before .before .before .before .before .before .before .before .before .before .before .before .before .before .before .intersect-at .ensures) in
-    let second = simp back at (c .before .before .before .before .before .before .before .before .project-mv .ensures) in
+    let s = c .before .before .before .before .before .before .before .before .before .before .before .before .before .before .before .before .before .before .before .before .before .before .before .before .before .before .before .before .before .before .before .before .before .before .before in let a = s .args in let k = c .before .before .before .before .before .before .before .before .before .before .before .before .before .before .before .before .before .before .before .before .before .before .before .before .before .before .before .before .before .before in let b = ref k in
     λ planes q l.
+    let m = numbers (a .t) planes q b (a .n) (a .tgt) (a .dir) (a .part .now) (a .ref2ref .now) (a .ref2idx .now) (a .ref2sf0 .now) (a .ref2sf1 .now) l _ _ _ _ _ (toZ-ofZ (s .fits .tgt)) (toZ-ofZ (d-fits (c .before .before .before .before .before .before .before .before .before .before .before .before .before .before .before .before .before .before .before .before .before .before .before .before .before .before .before .before))) (toZ-ofZ (idx-fits (c .before .before .before .before .before .before .before .before .before .before .before .before .before .before .before .before .before .before .before .before .before .before .before .before .before .before .before))) (toZ-ofZ (first-fits (c .before .before .before .before .before .before .before .before .before .before .before .before .before .before .before .before .before .before .before .before .before .before .before .before .before .before))) (toZ-ofZ (second-fits (c .before .before .before .before .before .before .before .before .before .before .before .before .before .before .before .before .before .before .before .before .before .before .before .before .before))) in
     sample-on (a .t) (a .traj) planes (a .y) (a .x) (a .n) (a .dir) (a .field-y .now) (a .field-x .now) (a .field-ref .now) (a .traj-y .now) (a .traj-x .now) (a .map-y .now) (a .map-x .now)
-    q (l .slot) (l .dir) b (vector (c .before .before .before .before .before .before .before .before .before .before .before .before .before .before .before .before .before .before .before .before .before .before .before .before .before .before .before .before .before .before)) (saved-is (c .before .before .before .before .before .before .before .before .before .before .before .before .before .before .before .before .before .before .before .before .before .before .before .before .before .before .before .before .before .before .before .before) planes (l .part) ∙ c .before .before .before .before .before .before .before .before .before .before .before .before .before .before .before .before .before .before .before .before .before .before .before .before .before .before .before .before .before .before .k .given .1) (getD (a .ref2idx .now) b (pos 0)) (numbers (a .t) planes q b (a .n) (a .tgt) (a .dir) (a .part .now) (a .ref2ref .now) (a .ref2idx .now) (a .ref2sf0 .now) (a .ref2sf1 .now) l .idx)
-    _ _ _ _ first _ (second q b (numbers (a .t) planes q b (a .n) (a .tgt) (a .dir) (a .part .now) (a .ref2ref .now) (a .ref2idx .now) (a .ref2sf0 .now) (a .ref2sf1 .now) l))
+    q (l .slot) (l .dir) b (vector k) (saved-is (c .before .before .before .before .before .before .before .before .before .before .before .before .before .before .before .before .before .before .before .before .before .before .before .before .before .before .before .before .before .before .before .before) planes (l .part) ∙ k .k .given .1) _ (m .idx)
+    _ _ _ _ (c .before .before .before .before .before .before .before .before .before .before .before .before .before .before .before .before .before .before .before .before .intersect-at .ensures) _ (c .before .before .before .before .before .before .before .before .project-mv .ensures q b m)
 
 pub sample-spec : {M : Type 1} → statement M
 sample-spec =

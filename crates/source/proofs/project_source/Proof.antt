@@ -7,6 +7,7 @@ use lib.IntN.{negsuc}
 use lib.ListN.{length, drop, length-drop}
 use mir.Syntax.{w8}
 use mir.Val.{SFits}
+use mir.Facts.{toZ-ofZ}
 use Rattle.intops.proofs.Signed.{signed!, back, eq-yes, eq-no}
 use borrow.Author.Tests.{not-true, not-false}
 use Rattle.intops.specs.Choice.{eqZ}
@@ -91,43 +92,49 @@ part-project-rows-end c = search needs
 project-rows-requires : tie.Need-project-rows-requires
 project-rows-requires c κs =
     let s = c .before .before .before .before .before .before .before .before .before .before .before .before .before .before .before .before .before .before .before .before .before .before .before .before .before .before .before .before .before in let a = s .args in let p = s .pre .0 in let k = p .0 in let q = slots-low (a .s) (p .1) in
-    let m = c .before .before .before .before .before .before .before .before .before .before .before .before .before in let i = savedAt (a .t) (a .s .reference .0) (a .t .top) 0 in
-    rw (rest (m .rows-at .result) (a .planes .now), begins m, c .before .before .before .before .before .before .before .before .before .before .before .before .before .before .before .before .before .before .before .before .before .before .slot-index .ensures, c .before .before .before .before .before .before .before .before .before .before .before .before .before .before .before .before .less .ensures, c .before .before .before .before .before .before .before .before .before .before .before .before .before .before .least .ensures) (
-      (k, q .reference, q .dir, from-on s, omega arith, omega (arith, rows-in (a .t) k (a .s .reference .0) (q .reference), p .2, length-drop i (a .planes .now)), ranges (a .s) (p .1)),
+    let m = c .before .before .before .before .before .before .before .before .before .before .before .before .before in let i = m .rows-at .result in let l = a .planes .now in (
+      (
+        k,
+        rw (c .before .before .before .before .before .before .before .before .before .before .before .before .before .before .before .before .before .before .before .before .before .before .slot-index .ensures) (q .reference),
+        q .dir,
+        rw (c .before .before .before .before .before .before .before .before .before .before .before .before .before .before .before .before .less .ensures) (from-on s),
+        omega (arith, c .before .before .before .before .before .before .before .before .before .before .before .before .before .before .least .ensures),
+        omega (arith, begins m, rows-in (a .t) k (a .s .reference .0) (q .reference), p .2, ap length (rest i l), length-drop i l),
+        ranges (a .s) (p .1),
+      ),
       (
         s .pre .1,
-        λ y x u v o w z. block-same (a .t) (a .planes .now) (drop i (a .planes .now)) (a .s .reference .0) y x u refl blockFine (a .s .dir) ∙ block-fine (a .t) k (a .s) q (a .planes .now) (fine (c .before .before .before .before .before .before .before .before .before .before .before .before .before .before .before .before .before .before .before .before .before .before .before .before)) y x u v o w z,
+        λ y x u v o w z. block-same (a .t) l _ (a .s .reference .0) y x u (ap (λ (j : ℕ). drop j l) (sym (begins m)) ∙ sym (rest i l)) blockFine (a .s .dir) ∙ block-fine (a .t) k (a .s) q l (fine (c .before .before .before .before .before .before .before .before .before .before .before .before .before .before .before .before .before .before .before .before .before .before .before .before)) y x u v o w z,
       ),
     )
 
 same-length : tie.Need-same-length
-same-length c = search needs
+same-length c = c .before .before .before .before .before .before .before .before .project-rows .kept .0
 
 same-length-2 : tie.Need-same-length-2
-same-length-2 c = search needs
+same-length-2 c = c .before .before .before .before .before .before .before .before .project-rows .kept .1 .0
 
 same-length-3 : tie.Need-same-length-3
-same-length-3 c = search needs
+same-length-3 c = c .before .before .before .before .before .before .before .before .project-rows .kept .1 .1 .0
 
 same-length-4 : tie.Need-same-length-4
-same-length-4 c = search needs
+same-length-4 c = c .before .before .before .before .before .before .before .before .project-rows .kept .1 .1 .1 .0
 
 same-length-5 : tie.Need-same-length-5
-same-length-5 c = search needs
+same-length-5 c = c .before .before .before .before .before .before .before .before .project-rows .kept .1 .1 .1 .1 .0
 
 same-length-6 : tie.Need-same-length-6
-same-length-6 c = search needs
+same-length-6 c = c .before .before .before .before .before .before .before .before .project-rows .kept .1 .1 .1 .1 .1 .0
 
 same-length-7 : tie.Need-same-length-7
-same-length-7 c = search needs
+same-length-7 c = c .before .before .before .before .before .before .before .before .project-rows .kept .1 .1 .1 .1 .1 .1 .0
 
 returns-3 : tie.Need-returns-3
 returns-3 c =
-    let s = c .before .before .before .before .before .before .before .before .before .before .before .before .before .before .before .before .before .before .before .before .before .before .before .before .before .before .before .before .before .before .before .before .before .before .before .before .before .before in let a = s .args in let f = tgt-fits (c .before .before .before .before .before .before .before .before .before .before .before .before .before .before .before .before .before .before .before .before .before .before .before .before .before .before .before .before .before .before .before .before .before .before) in let r = simp back at (c .before .before .before .before .before .before .before .before .project-rows .ensures) in
-    let m = c .before .before .before .before .before .before .before .before .before .before .before .before .before .before .before .before .before .before .before .before .before .before in
+    let s = c .before .before .before .before .before .before .before .before .before .before .before .before .before .before .before .before .before .before .before .before .before .before .before .before .before .before .before .before .before .before .before .before .before .before .before .before .before .before in let a = s .args in let m = c .before .before .before .before .before .before .before .before .before .before .before .before .before .before .before .before .before .before .before .before .before .before in
     λ held e.
     source-on (a .t) (a .traj) held (a .planes .now) (a .s) _ (near (c .before .before .before .before .before .before .before .before .before .before .before .before .before .before .before .before .before .before .before .before .before .before .before .before .before .before .before .before .before .before .before .before .before)) (e ∙ there (c .before .before .before .before .before .before .before .before .before .before .before .before .before .before .before .before .before .before .before .before .before .before .before .before .before .before .before .before .before .before .before .before .before .before .before .before)) _ _ (c .before .before .before .before .before .before .before .before .before .before .before .before .before .before .before .before .before .before .before .before .before .before .before .before .before .less .ensures) (c .before .before .before .before .before .before .before .before .before .before .before .before .before .before .before .before .before .before .before .before .before .before .before .least .ensures) _
-    (r (a .planes .now) (a .s) (record { part = ap (λ (i : ℕ). drop i (a .planes .now)) (sym (m .rows-at .ensures)) ∙ sym (rest (m .rows-at .result) (a .planes .now)); slot = sym (c .before .before .before .before .before .before .before .before .before .before .before .before .before .before .before .before .before .before .before .before .before .before .before .before .before .before .before .before .before .before .before .slot-index .ensures); tgt = refl; dir = refl; ref2ref = refl; ref2idx = refl; ref2sf0 = refl; ref2sf1 = refl }))
+    (c .before .before .before .before .before .before .before .before .project-rows .ensures (a .planes .now) (a .s) (record { part = ap (λ (i : ℕ). drop i (a .planes .now)) (sym (m .rows-at .ensures)) ∙ sym (rest (m .rows-at .result) (a .planes .now)); slot = sym (c .before .before .before .before .before .before .before .before .before .before .before .before .before .before .before .before .before .before .before .before .before .before .before .before .before .before .before .before .before .before .before .slot-index .ensures); tgt = sym (toZ-ofZ (tgt-fits (c .before .before .before .before .before .before .before .before .before .before .before .before .before .before .before .before .before .before .before .before .before .before .before .before .before .before .before .before .before .before .before .before .before .before))); dir = refl; ref2ref = refl; ref2idx = refl; ref2sf0 = refl; ref2sf1 = refl }))
 
 pub project-source-spec : {M : Type 1} → statement M
 project-source-spec =
