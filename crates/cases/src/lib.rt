@@ -93,9 +93,48 @@ pub fn to_u8(v: i64) -> u8
     }
 }
 
+pub fn to_usize(v: i64) -> usize
+    ensures { λ r. ⌜ (Inside (pos 0) (pos 9223372036854775807) v → r ≡ natAbs v) ⌝ }
+{
+    if v < 0 { 0 } else { v as usize }
+}
+
 // A switch is on where its number is not 0.
 pub fn is_on(v: i64) -> bool
     ensures { λ r. ⌜ r ≡ isOn v ⌝ }
 {
     v != 0
+}
+
+// A line's numbers are i64: one function for each type of a field or an element.
+pub fn of_u8(v: u8) -> i64
+    ensures { λ r. ⌜ r ≡ pos v ⌝ }
+{
+    v as i64
+}
+
+pub fn of_i8(v: i8) -> i64
+    ensures { λ r. ⌜ r ≡ v ⌝ }
+{
+    v as i64
+}
+
+pub fn of_i32(v: i32) -> i64
+    ensures { λ r. ⌜ r ≡ v ⌝ }
+{
+    v as i64
+}
+
+pub fn same_u8s(a: &[u8], b: &[u8]) -> bool
+    ensures { λ r. ⌜ WhenTrue r (now (a .entry) ≡ now (b .entry)) ⌝ }
+{
+    if a.len() != b.len() {
+        return false;
+    }
+    for i in 0..a.len() {
+        if a[i] != b[i] {
+            return false;
+        }
+    }
+    true
 }

@@ -149,9 +149,13 @@ putFrame f o0 =
 unfoldable pub recordOf : Frame → List ℤ
 recordOf f = putFrame f (replicate 171 (pos 0))
 
+-- a line states these 171 numbers, from the number `from` on
+abbrev pub Stated : List ℤ → List ℤ → ℕ → Type 0
+Stated o n from = (k : ℕ) → k < 171 → at n (from + k) ≡ at o k
+
 -- ---- a line that agrees
 
 -- the refusal's number and the record are those of the header
 pub record FrameAgrees (n : List ℤ) : Type 0 where
   pub sameRefusal : at n 83 ≡ pos (setupOf (headerOf n) .refusal)
-  pub sameRecord : (k : ℕ) → k < 171 → at n (84 + k) ≡ at (recordOf (setupOf (headerOf n) .frame)) k
+  pub sameRecord : Stated (recordOf (setupOf (headerOf n) .frame)) n 84

@@ -1,12 +1,12 @@
 // The kind `frame`: the header of a line's first numbers, and the numbers of the record that
 // init_frame makes of it, fields and elements in the order of include/refmvs.h.
 ghost use mathlib.Core.Path.{_≡_};
-ghost use Prim.Native.Nat.{ℕ, _+_, _≤_, _<_};
+ghost use Prim.Native.Nat.{_+_, _≤_};
 ghost use lib.IntN.{pos};
 ghost use lib.ListN.{length};
 ghost use Rattle.cases.specs.Verdicts.{WhenTrue, WhenAgrees};
 ghost use Rattle.cases.specs.Numbers.{at, Bytes};
-ghost use Rattle.frame_cases.specs.FrameCase.{HeaderFits, hintsAt, savedAt, allSaved, switchesAt, pocsOf, headerOf, bit, bits, bytes, inI64, putSeven, putSource, putSources, putHead, putFrame, FrameAgrees};
+ghost use Rattle.frame_cases.specs.FrameCase.{HeaderFits, hintsAt, savedAt, allSaved, switchesAt, pocsOf, headerOf, bit, bits, bytes, inI64, putSeven, putSource, putSources, putHead, putFrame, recordOf, Stated, FrameAgrees};
 use cases::Verdict;
 use entry::Source;
 use frame::Frame;
@@ -136,27 +136,9 @@ fn header_of(n: &[i64]) -> Header
     }
 }
 
-// A line's numbers are i64: one function for each type that a field of the record has.
+// A line's numbers are i64.
 fn of_bool(v: bool) -> i64
     ensures { λ r. ⌜ r ≡ bit v ⌝ }
-{
-    v as i64
-}
-
-fn of_u8(v: u8) -> i64
-    ensures { λ r. ⌜ r ≡ pos v ⌝ }
-{
-    v as i64
-}
-
-fn of_i8(v: i8) -> i64
-    ensures { λ r. ⌜ r ≡ v ⌝ }
-{
-    v as i64
-}
-
-fn of_i32(v: i32) -> i64
-    ensures { λ r. ⌜ r ≡ v ⌝ }
 {
     v as i64
 }
@@ -185,7 +167,7 @@ fn put_u8s(a: [u8; 7], out: &mut [i64; 171], k: usize)
     ensures { λ _. ⌜ now (out .exit) ≡ putSeven (bytes a) k (now (out .entry)) ⌝ }
 {
     for i in 0..7 {
-        out[k + i] = of_u8(a[i]);
+        out[k + i] = cases::of_u8(a[i]);
     }
 }
 
@@ -194,7 +176,7 @@ fn put_i8s(a: [i8; 7], out: &mut [i64; 171], k: usize)
     ensures { λ _. ⌜ now (out .exit) ≡ putSeven (at a) k (now (out .entry)) ⌝ }
 {
     for i in 0..7 {
-        out[k + i] = of_i8(a[i]);
+        out[k + i] = cases::of_i8(a[i]);
     }
 }
 
@@ -203,7 +185,7 @@ fn put_i32s(a: [i32; 7], out: &mut [i64; 171], k: usize)
     ensures { λ _. ⌜ now (out .exit) ≡ putSeven (at a) k (now (out .entry)) ⌝ }
 {
     for i in 0..7 {
-        out[k + i] = of_i32(a[i]);
+        out[k + i] = cases::of_i32(a[i]);
     }
 }
 
@@ -216,10 +198,10 @@ fn put_source(s: Source, out: &mut [i64; 171], k: usize)
     let ref2idx = s.ref2idx;
     let ref2sf0 = s.ref2sf0;
     let ref2sf1 = s.ref2sf1;
-    out[k] = of_u8(reference.0);
-    out[k + 1] = of_i8(s.tgt);
-    out[k + 2] = of_u8(s.dir);
-    out[k + 3] = of_i8(s.ref2cur);
+    out[k] = cases::of_u8(reference.0);
+    out[k + 1] = cases::of_i8(s.tgt);
+    out[k + 2] = cases::of_u8(s.dir);
+    out[k + 3] = cases::of_i8(s.ref2cur);
     put_i8s(ref2ref, out, k + 4);
     put_i8s(ref2idx, out, k + 11);
     put_i32s(ref2sf0, out, k + 18);
@@ -242,14 +224,14 @@ fn put_head(f: Frame, out: &mut [i64; 171])
     out[0] = of_u64(f.width as u64);
     out[1] = of_u64(f.height as u64);
     out[2] = of_u64(f.n_refs as u64);
-    out[3] = of_u8(f.sb128);
-    out[4] = of_u8(f.tmvp_sample_step);
-    out[5] = of_u8(f.tip_frame_mode);
-    out[6] = of_i8(f.tip0);
-    out[7] = of_i8(f.tip1);
-    out[8] = of_i8(tip.delta);
-    out[9] = of_i32(tip.sf0);
-    out[10] = of_i32(tip.sf1);
+    out[3] = cases::of_u8(f.sb128);
+    out[4] = cases::of_u8(f.tmvp_sample_step);
+    out[5] = cases::of_u8(f.tip_frame_mode);
+    out[6] = cases::of_i8(f.tip0);
+    out[7] = cases::of_i8(f.tip1);
+    out[8] = cases::of_i8(tip.delta);
+    out[9] = cases::of_i32(tip.sf0);
+    out[10] = cases::of_i32(tip.sf1);
     out[11] = of_u64(f.ref_flip);
 }
 
@@ -266,23 +248,33 @@ fn put_frame(f: Frame, out: &mut [i64; 171])
     put_bools(ref_sign, out, 19);
     put_i8s(pocdiff, out, 26);
     put_u8s(abspocdiff, out, 33);
-    out[40] = of_u8(sources.mfmv_mask);
+    out[40] = cases::of_u8(sources.mfmv_mask);
     out[41] = of_bool(f.use_ref_frame_mvs);
     out[42] = of_u64(sources.n_mfmvs as u64);
     put_sources(sources, out);
 }
 
-// Are the record's numbers those that the line states?
-fn agrees(made: &[i64; 171], n: &[i64]) -> bool
-    requires { ⌜ length (now n) ≡ 255 ⌝ }
-    ensures { λ r. ⌜ WhenTrue r ((k : ℕ) → k < 171 → at (now (n .entry)) (84 + k) ≡ at (now (made .entry)) k) ⌝ }
+// Are the record's numbers those of the line, from the number `from` on?
+fn agrees(made: &[i64; 171], n: &[i64], from: usize) -> bool
+    requires { ⌜ from + 171 ≤ length (now n) ⌝ }
+    ensures { λ r. ⌜ WhenTrue r (Stated (now (made .entry)) (now (n .entry)) from) ⌝ }
 {
     for i in 0..171 {
-        if made[i] != n[84 + i] {
+        if made[i] != n[from + i] {
             return false;
         }
     }
     true
+}
+
+// Is this the record that the line states?
+pub fn is_record(f: Frame, n: &[i64], from: usize) -> bool
+    requires { ⌜ from + 171 ≤ length (now n) ⌝ }
+    ensures { λ r. ⌜ WhenTrue r (Stated (recordOf f) (now (n .entry)) from) ⌝ }
+{
+    let mut made = [0i64; 171];
+    put_frame(f, &mut made);
+    agrees(&made, n, from)
 }
 
 pub fn judge_frame(n: &[i64]) -> Verdict
@@ -296,13 +288,11 @@ pub fn judge_frame(n: &[i64]) -> Verdict
     }
     let setup = frame::init_frame(header_of(n));
     let said = setup.said;
-    if of_u8(frame::number(said)) != n[83] {
+    if cases::of_u8(frame::number(said)) != n[83] {
         return Verdict::Differs;
     }
     let f = setup.frame;
-    let mut made = [0i64; 171];
-    put_frame(f, &mut made);
-    if !agrees(&made, n) {
+    if !is_record(f, n, 84) {
         return Verdict::Differs;
     }
     Verdict::Agrees

@@ -275,20 +275,6 @@ pub fn next_line(s: State, input: &mut [u8], word: &mut [u8], numbers: &mut [i64
     next
 }
 
-pub fn same(a: &[u8], b: &[u8]) -> bool {
-    if a.len() != b.len() {
-        return false;
-    }
-    let mut i = 0;
-    while i < a.len() {
-        if a[i] != b[i] {
-            return false;
-        }
-        i += 1;
-    }
-    true
-}
-
 // Copies what fits of word to the front of out, and answers how many bytes.
 pub fn put(word: &[u8], out: &mut [u8]) -> usize
     ensures { λ r. ⌜ Counts r (now (out .exit)) ⌝ }

@@ -58,7 +58,7 @@ pub fn judge(kind: usize, numbers: &[i64]) -> Verdict {
 fn is_name(kind: usize, word: &[u8]) -> bool {
     let mut name = [0u8; 16];
     let n = put_name(kind, &mut name);
-    lines::same(word, &name[..n])
+    cases::same_u8s(word, &name[..n])
 }
 
 // The kind that has this name, or NONE.

@@ -12,10 +12,10 @@ use Rattle.frame_cases.proofs.agrees.Statement.{statement}
 use Rattle.frame_cases.proofs.agrees.Tie as tie
 
 abbrev Inv-loop : tie.InvT-loop
-Inv-loop made n i₀ i = (k : ℕ) → k < i → at n (84 + k) ≡ at made k
+Inv-loop made n from i₀ i = (k : ℕ) → k < i → at n (from + k) ≡ at made k
 
 abbrev μ-loop : tie.MeasureT-loop
-μ-loop made n i₀ i = 171 - i
+μ-loop made n from i₀ i = 171 - i
 
 loop-holds : tie.Need-loop-holds Inv-loop μ-loop
 loop-holds c = λ k h. absurd (omega arith)
@@ -50,8 +50,8 @@ loop-again c =
     let l = c .before .before .before .before .loop in
     let i = l .i in
     let f : SFits w64 (at (s .args .made .now) i) = search needs in
-    let g : SFits w64 (at (s .args .n .now) (84 + i)) = search needs in
-    let e : at (s .args .n .now) (84 + i) ≡ at (s .args .made .now) i = sym (same-bits f g (c .if1 .left)) in
+    let g : SFits w64 (at (s .args .n .now) (s .args .from + i)) = search needs in
+    let e : at (s .args .n .now) (s .args .from + i) ≡ at (s .args .made .now) i = sym (same-bits f g (c .if1 .left)) in
     below-more _ _ (l .inv) e
 
 returns-2 : tie.Need-returns-2 Inv-loop μ-loop

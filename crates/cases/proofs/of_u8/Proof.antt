@@ -1,11 +1,11 @@
--- `frame_cases::of_u8` meets its contract. Assumes nothing.
+-- `cases::of_u8` meets its contract. Assumes nothing.
 use lib.IntN.{pos}
 use mir.Syntax.{w64}
 use mir.Val.{SFits}
 use borrow.Author.Needs.{needs}
 use Rattle.intops.proofs.Signed.{back}
-use Rattle.frame_cases.proofs.of_u8.Statement.{statement}
-use Rattle.frame_cases.proofs.of_u8.Tie as tie
+use Rattle.cases.proofs.of_u8.Statement.{statement}
+use Rattle.cases.proofs.of_u8.Tie as tie
 
 cast-result : tie.Need-cast-result
 cast-result c = search needs

@@ -1,0 +1,92 @@
+// The lists of a case in one list of numbers (load_cases has the places where they begin).
+
+// Where a list begins; list 8 is past the last.
+fn start_of(list: usize) -> usize {
+    match list {
+        0 => load_cases::FIELD_Y,
+        1 => load_cases::FIELD_X,
+        2 => load_cases::FIELD_REF,
+        3 => load_cases::TRAJ_Y,
+        4 => load_cases::TRAJ_X,
+        5 => load_cases::MAP_Y,
+        6 => load_cases::MAP_X,
+        7 => load_cases::PLANES,
+        _ => 95768,
+    }
+}
+
+// The room for a list's elements.
+pub fn room_of(list: usize) -> usize {
+    if 7 < list {
+        return 0;
+    }
+    std::num::wrapping_sub_usize(start_of(list + 1), start_of(list))
+}
+
+pub fn clear(to: &mut [i64]) {
+    for i in 0..to.len() {
+        to[i] = 0;
+    }
+}
+
+// Copies what fits of the numbers.
+pub fn copy(n: &[i64], to: &mut [i64]) {
+    let mut i = 0;
+    while i < n.len() {
+        if to.len() <= i {
+            return;
+        }
+        to[i] = n[i];
+        i += 1;
+    }
+}
+
+// The place k of n values, or the first where they are used up.
+fn again(k: usize, n: usize) -> usize {
+    if k < n { k } else { 0 }
+}
+
+// The elements from `from` up to `end` get the values, again and again in their order.
+fn put_run(values: &[i64], from: usize, end: usize, to: &mut [i64]) -> bool {
+    let mut at = from;
+    let mut next = 0;
+    while at < end {
+        let k = again(next, values.len());
+        if values.len() <= k {
+            return false;
+        }
+        if to.len() <= at {
+            return false;
+        }
+        to[at] = values[k];
+        next = k + 1;
+        at += 1;
+    }
+    true
+}
+
+// The line's run of values (list from count value..) lies in its list, and is put there.
+pub fn put(lengths: [usize; 8], n: &[i64], to: &mut [i64]) -> bool {
+    if n.len() < 4 {
+        return false;
+    }
+    let list = cases::to_usize(n[0]);
+    let from = cases::to_usize(n[1]);
+    let count = cases::to_usize(n[2]);
+    if 7 < list {
+        return false;
+    }
+    let length = lengths[list];
+    if length < from {
+        return false;
+    }
+    if length - from < count {
+        return false;
+    }
+    if count < n.len() - 3 {
+        return false;
+    }
+    let first = std::num::wrapping_add_usize(start_of(list), from);
+    let end = std::num::wrapping_add_usize(first, count);
+    put_run(&n[3..], first, end, to)
+}

@@ -1,0 +1,236 @@
+// Replays kept loads: the lines of standard input (crate lines) make the lists of a store and the
+// planes, ask for loads, and say what each leaves; the library has to answer and leave the same.
+//
+//     case n length*8: a case begins; its lists have these lengths, and every element is 0
+//     setup record: the setup of the calls that follow (171 numbers: frame_cases)
+//     set list from count value..: in the list and in the wanted one, count elements from that place
+//       on get the values, again and again in their order
+//     call mode trajectories holes column_start column_end row_start row_end answer: a load
+//     changed list from count value..: as set, in the wanted list alone
+//     check n: n elements were named as changed; now the load is made and judged
+//
+// Lists 0 to 6 are the store's seven, 7 the planes. Ends at the first load that differs, or at a line
+// that cannot stand where it is.
+mod book;
+mod lists;
+
+use book::Book;
+use cases::Verdict;
+use lines::State;
+use lines::report;
+
+// The words.
+const CASE: usize = 1;
+
+const SETUP: usize = 2;
+
+const SET: usize = 3;
+
+const CALL: usize = 4;
+
+const CHANGED: usize = 5;
+
+const CHECK: usize = 6;
+
+// The kinds of cases that are counted.
+const LOAD: usize = 0;
+
+const REFUSED: usize = 1;
+
+fn word_of(word: &[u8]) -> usize {
+    if cases::same_u8s(word, b"case") {
+        return CASE;
+    }
+    if cases::same_u8s(word, b"setup") {
+        return SETUP;
+    }
+    if cases::same_u8s(word, b"set") {
+        return SET;
+    }
+    if cases::same_u8s(word, b"call") {
+        return CALL;
+    }
+    if cases::same_u8s(word, b"changed") {
+        return CHANGED;
+    }
+    if cases::same_u8s(word, b"check") {
+        return CHECK;
+    }
+    0
+}
+
+fn begin_case(b: Book, n: &[i64], cells: &mut [i64], want: &mut [i64]) -> Book {
+    let next = book::case(b, n);
+    lists::clear(cells);
+    lists::clear(want);
+    next
+}
+
+fn set(b: Book, n: &[i64], cells: &mut [i64], want: &mut [i64]) -> Book {
+    let lengths = b.lengths;
+    let is_set = lists::put(lengths, n, cells) & lists::put(lengths, n, want);
+    book::set(b, is_set)
+}
+
+fn change(b: Book, n: &[i64], want: &mut [i64]) -> Book {
+    let lengths = b.lengths;
+    let is_set = lists::put(lengths, n, want);
+    book::changed(b, n, is_set)
+}
+
+// The answer is the last number of a call.
+fn kind_of(call: &[i64]) -> usize {
+    if call.len() <= 7 {
+        return LOAD;
+    }
+    if call[7] == 0 { LOAD } else { REFUSED }
+}
+
+fn judged(b: Book, verdict: Verdict, kind: usize, tallies: &mut [u64]) -> Book {
+    match verdict {
+        Verdict::Agrees => {
+            report::count_up(tallies, kind);
+            book::checked(b)
+        }
+        Verdict::Differs => book::ended(b, book::DIFFERS),
+        Verdict::NotACase => book::ended(b, book::NOT_A_LINE),
+    }
+}
+
+// Once a load agrees, the lists are the wanted ones.
+fn check(
+    b: Book,
+    n: &[i64],
+    setup: &[i64],
+    call: &[i64],
+    tallies: &mut [u64],
+    cells: &mut [i64],
+    want: &[i64],
+) -> Book {
+    let lengths = b.lengths;
+    let count = b.call;
+    if !book::may_check(b, n) {
+        return book::ended(b, book::NOT_A_LINE);
+    }
+    if call.len() < count {
+        return book::ended(b, book::NOT_A_LINE);
+    }
+    let verdict = kept_cases::judge(lengths, cells, want, setup, &call[0..count]);
+    lists::copy(want, cells);
+    judged(b, verdict, kind_of(call), tallies)
+}
+
+fn act(
+    b: Book,
+    word: usize,
+    line: u64,
+    n: &[i64],
+    setup: &mut [i64],
+    call: &mut [i64],
+    tallies: &mut [u64],
+    cells: &mut [i64],
+    want: &mut [i64],
+) -> Book {
+    match word {
+        CASE => begin_case(b, n, cells, want),
+        SETUP => book::setup(b, n, setup),
+        SET => set(b, n, cells, want),
+        CALL => book::begin(b, line, 8, n, call),
+        CHANGED => change(b, n, want),
+        CHECK => check(b, n, setup, call, tallies, cells, want),
+        _ => book::ended(b, book::NOT_A_LINE),
+    }
+}
+
+fn take_line(
+    b: Book,
+    s: State,
+    word: &[u8],
+    numbers: &[i64],
+    setup: &mut [i64],
+    call: &mut [i64],
+    tallies: &mut [u64],
+    cells: &mut [i64],
+    want: &mut [i64],
+) -> Book {
+    let letters = s.letters;
+    let n = s.count;
+    if s.found == lines::ALL_READ {
+        return book::all_read(b);
+    }
+    if s.found != lines::LINE {
+        return book::ended(b, book::NOT_A_LINE);
+    }
+    if word.len() < letters {
+        return book::ended(b, book::NOT_A_LINE);
+    }
+    if numbers.len() < n {
+        return book::ended(b, book::NOT_A_LINE);
+    }
+    let what = word_of(&word[0..letters]);
+    act(
+        b,
+        what,
+        s.line,
+        &numbers[0..n],
+        setup,
+        call,
+        tallies,
+        cells,
+        want,
+    )
+}
+
+fn print_end(b: Book, line: u64, tallies: &[u64]) {
+    let loads = report::tally(tallies, LOAD);
+    let refused = report::tally(tallies, REFUSED);
+    report::print_agreed(b"loads", loads);
+    report::print_agreed(b"refused loads", refused);
+    if b.ended == book::DIFFERS {
+        report::print_differs(b.line, b"call");
+        return;
+    }
+    if b.ended == book::NO_ROOM {
+        report::print_why(line, b"no room for the lists of this case");
+        return;
+    }
+    if b.ended == book::NOT_A_LINE {
+        report::print_why(line, b"not a line that may stand here");
+        return;
+    }
+    report::print_all_agree(std::num::wrapping_add_u64(loads, refused));
+}
+
+// Makes the buffers and the lists once, and lends them. The turns are those of lines::next_line.
+fn main() {
+    let mut input = io::large_buffer();
+    let mut word = [0u8; 16];
+    let mut numbers = [0i64; 256];
+    let mut setup = [0i64; 171];
+    let mut call = [0i64; 14];
+    let mut tallies = [0u64; 32];
+    let mut cells = [0i64; 95768];
+    let mut want = [0i64; 95768];
+    let mut s = lines::start();
+    let mut b = book::start();
+    let mut turns = u64::MAX;
+    while 0 < turns {
+        s = lines::next_line(s, &mut input, &mut word, &mut numbers);
+        b = take_line(
+            b,
+            s,
+            &word,
+            &numbers,
+            &mut setup,
+            &mut call,
+            &mut tallies,
+            &mut cells,
+            &mut want,
+        );
+        if b.ended != book::RUNNING {
+            print_end(b, s.line, &tallies);
+            return;
+        }
+        turns -= 1;
+    }
+}
