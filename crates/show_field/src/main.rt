@@ -5,24 +5,25 @@ mod problems;
 mod read;
 mod write;
 
+ghost use mathlib.Core.Path.{_≡_};
 ghost use Prim.Native.Nat.{_≤_};
+ghost use lib.ListN.{length};
 use checks::LoadAnswer;
 use frame::Frame;
 use libc::STDIN_FILENO;
 use problems::Problem;
 
-// Is the argument of n bytes the word?
-fn is_word(arg: &[u8], n: usize, word: &[u8]) -> bool {
-    if n != word.len() {
+// Is the argument the word?
+fn is_word(arg: &[u8], word: &[u8]) -> bool {
+    if arg.len() != word.len() {
         return false;
     }
-    let mut same = true;
-    for i in 0..word.len() {
-        if i < arg.len() {
-            same = same & (arg[i] == word[i]);
+    for i in 0..arg.len() {
+        if arg[i] != word[i] {
+            return false;
         }
     }
-    same
+    true
 }
 
 enum Wanted {
@@ -31,7 +32,7 @@ enum Wanted {
     Usage,
 }
 
-fn wanted() -> Wanted {
+fn asked() -> Wanted {
     let count = os::arg_count();
     if count < 2 {
         return Wanted::Text;
@@ -41,76 +42,27 @@ fn wanted() -> Wanted {
     }
     let mut arg = [0u8; 16];
     let n = os::arg(1, &mut arg);
-    if is_word(&arg, n, b"text") {
+    if is_word(&arg[..n], b"text") {
         return Wanted::Text;
     }
-    if is_word(&arg, n, b"picture") {
+    if is_word(&arg[..n], b"picture") {
         return Wanted::Picture;
     }
     Wanted::Usage
 }
 
-// The buffers of a load, for frames up to 2048 x 2048 pixels, and the field's way out.
-fn load_and_write(
-    planes: &[i8],
-    f: Frame,
-    traj: bool,
-    holes: bool,
-    ends: &[usize],
-    picture: bool,
-) -> Problem {
-    let mut field_y = [levels::INVALID_MV; 65536];
-    let mut field_x = [0i32; 65536];
-    let mut field_ref = [0u8; 65536];
-    let mut traj_y = [levels::INVALID_MV; 57344];
-    let mut traj_x = [0i32; 57344];
-    let mut map_y = [-128i8; 172032];
-    let mut map_x = [-128i8; 172032];
-    let said = loads::load_frame(
-        &mut field_y,
-        &mut field_x,
-        &mut field_ref,
-        &mut traj_y,
-        &mut traj_x,
-        &mut map_y,
-        &mut map_x,
-        planes,
-        f,
-        traj,
-        holes,
-        ends,
-    );
-    if checks::number(said) != 0 {
-        return Problem::Load(said);
-    }
-    if picture {
-        write::write_picture(&field_y, &field_x, f.width, f.height, checks::stride_of(f));
-    } else {
-        write::write_text(
-            &field_y,
-            &field_x,
-            &field_ref,
-            checks::wide_of(f),
-            checks::high_of(f),
-            checks::stride_of(f),
-        );
-    }
-    Problem::Nothing
-}
-
-// The rest of the file, behind its head.
-fn show(head: &[u8; 103], f: Frame, picture: bool) -> Problem {
+// The file's rest, behind its head: the ends of n tile columns, and the planes.
+fn read_rest(f: Frame, n: usize, line: &mut [u8], ends: &mut [usize], planes: &mut [i8]) -> Problem
+    requires { ⌜ (f .width ≤ 2048) × (f .height ≤ 2048) × (n ≤ 255) × (14592 ≤ length (now line)) × (255 ≤ length (now ends)) × (2752512 ≤ length (now planes)) ⌝ }
+{
     let wide = checks::wide_of(f);
     let high = checks::high_of(f);
     let stride = checks::stride_of(f);
-    let n = head[102] as usize;
-    let mut ends = [0usize; 255];
-    let mut planes = [0i8; 2752512];
-    if !read::read_ends(n, &mut ends) {
+    if !read::read_ends(line, n, ends) {
         return Problem::TooShort;
     }
     let present = f.rp_ref;
-    if !read::read_planes(present, wide, high, stride, &mut planes) {
+    if !read::read_planes(present, line, wide, high, stride, planes) {
         return Problem::TooShort;
     }
     if n == 0 {
@@ -122,15 +74,127 @@ fn show(head: &[u8; 103], f: Frame, picture: bool) -> Problem {
     if !read::is_at_end() {
         return Problem::TooLong;
     }
-    let traj = framefile::is_on(head[100]);
-    let holes = framefile::is_on(head[101]);
-    load_and_write(&planes, f, traj, holes, &ends[..n], picture)
+    Problem::Nothing
 }
 
-fn run(picture: bool) -> Problem {
+fn write_field(
+    f: Frame,
+    picture: bool,
+    field_y: &[i32],
+    field_x: &[i32],
+    field_ref: &[u8],
+    out: &mut [u8],
+)
+    requires { ⌜ (f .width ≤ 2048) × (f .height ≤ 2048) × (65536 ≤ length (now «field_y»)) × (65536 ≤ length (now «field_x»)) × (65536 ≤ length (now «field_ref»)) × (14592 ≤ length (now out)) ⌝ }
+{
+    let stride = checks::stride_of(f);
+    if picture {
+        write::write_picture(field_y, field_x, f.width, f.height, stride, out);
+        return;
+    }
+    let wide = checks::wide_of(f);
+    let high = checks::high_of(f);
+    write::write_text(field_y, field_x, field_ref, wide, high, stride, out);
+}
+
+fn load(
+    field_y: &mut [i32],
+    field_x: &mut [i32],
+    field_ref: &mut [u8],
+    traj_y: &mut [i32],
+    traj_x: &mut [i32],
+    map_y: &mut [i8],
+    map_x: &mut [i8],
+    planes: &[i8],
+    f: Frame,
+    traj: bool,
+    holes: bool,
+    ends: &[usize],
+    n: usize,
+) -> LoadAnswer
+    requires { ⌜ (f .height ≤ 2048) × (n ≤ length (now ends)) ⌝ }
+{
+    loads::load_frame(
+        field_y,
+        field_x,
+        field_ref,
+        traj_y,
+        traj_x,
+        map_y,
+        map_x,
+        planes,
+        f,
+        traj,
+        holes,
+        &ends[..n],
+    )
+}
+
+// A frame that is set up: the rest of its file, the loads, the field's way out.
+fn show(
+    head: &[u8; 103],
+    f: Frame,
+    picture: bool,
+    line: &mut [u8],
+    ends: &mut [usize],
+    planes: &mut [i8],
+    field_y: &mut [i32],
+    field_x: &mut [i32],
+    field_ref: &mut [u8],
+    traj_y: &mut [i32],
+    traj_x: &mut [i32],
+    map_y: &mut [i8],
+    map_x: &mut [i8],
+) -> Problem
+    requires { ⌜ (f .width ≤ 2048) × (f .height ≤ 2048) ⌝ }
+    requires { ⌜ (14592 ≤ length (now line)) × (255 ≤ length (now ends)) × (2752512 ≤ length (now planes)) × (65536 ≤ length (now «field_y»)) × (65536 ≤ length (now «field_x»)) × (65536 ≤ length (now «field_ref»)) ⌝ }
+{
+    let n = read::count(head[102]);
+    let problem = read_rest(f, n, line, ends, planes);
+    if problems::is_one(problem) {
+        return problem;
+    }
+    let traj = framefile::is_on(head[100]);
+    let holes = framefile::is_on(head[101]);
+    let said = load(
+        field_y,
+        field_x,
+        field_ref,
+        traj_y,
+        traj_x,
+        map_y,
+        map_x,
+        planes,
+        f,
+        traj,
+        holes,
+        ends,
+        n,
+    );
+    if checks::number(said) != 0 {
+        return Problem::Load(said);
+    }
+    write_field(f, picture, field_y, field_x, field_ref, line);
+    Problem::Nothing
+}
+
+fn run(
+    picture: bool,
+    line: &mut [u8],
+    ends: &mut [usize],
+    planes: &mut [i8],
+    field_y: &mut [i32],
+    field_x: &mut [i32],
+    field_ref: &mut [u8],
+    traj_y: &mut [i32],
+    traj_x: &mut [i32],
+    map_y: &mut [i8],
+    map_x: &mut [i8],
+) -> Problem
+    requires { ⌜ (14592 ≤ length (now line)) × (255 ≤ length (now ends)) × (2752512 ≤ length (now planes)) × (65536 ≤ length (now «field_y»)) × (65536 ≤ length (now «field_x»)) × (65536 ≤ length (now «field_ref»)) ⌝ }
+{
     let mut head = [0u8; 103];
-    let n = io::read_full(STDIN_FILENO, &mut head);
-    if n < 103 {
+    if io::read_full(STDIN_FILENO, &mut head) < 103 {
         return Problem::TooShort;
     }
     if !framefile::is_frame_file(&head) {
@@ -148,13 +212,61 @@ fn run(picture: bool) -> Problem {
     if 2048 < f.height {
         return Problem::TooLarge;
     }
-    show(&head, f, picture)
+    show(
+        &head,
+        f,
+        picture,
+        line,
+        ends,
+        planes,
+        field_y,
+        field_x,
+        field_ref,
+        traj_y,
+        traj_x,
+        map_y,
+        map_x,
+    )
+}
+
+// Seven planes of 256 x 256 blocks. Its length is said here, so that no proof counts that far.
+fn no_planes() -> [i8; 2752512]
+    ensures { λ r. ⌜ 2752512 ≡ length r ⌝ }
+{
+    [0; 2752512]
+}
+
+// The buffers, for frames up to 2048 x 2048 pixels. The store is empty.
+fn run_with_buffers(picture: bool) -> Problem {
+    let mut line = [0u8; 14592];
+    let mut ends = [0usize; 255];
+    let mut planes = no_planes();
+    let mut field_y = [levels::INVALID_MV; 65536];
+    let mut field_x = [0i32; 65536];
+    let mut field_ref = [0u8; 65536];
+    let mut traj_y = [levels::INVALID_MV; 57344];
+    let mut traj_x = [0i32; 57344];
+    let mut map_y = [-128i8; 172032];
+    let mut map_x = [-128i8; 172032];
+    run(
+        picture,
+        &mut line,
+        &mut ends,
+        &mut planes,
+        &mut field_y,
+        &mut field_x,
+        &mut field_ref,
+        &mut traj_y,
+        &mut traj_x,
+        &mut map_y,
+        &mut map_x,
+    )
 }
 
 fn main() {
-    match wanted() {
-        Wanted::Text => problems::tell(run(false)),
-        Wanted::Picture => problems::tell(run(true)),
+    match asked() {
+        Wanted::Text => problems::tell(run_with_buffers(false)),
+        Wanted::Picture => problems::tell(run_with_buffers(true)),
         Wanted::Usage => problems::tell(Problem::Usage),
     }
 }

@@ -15,6 +15,20 @@ pub enum Problem {
     Load(LoadAnswer),
 }
 
+pub fn is_one(p: Problem) -> bool {
+    match p {
+        Problem::Nothing => false,
+        Problem::Usage => true,
+        Problem::TooShort => true,
+        Problem::NotAFrameFile => true,
+        Problem::Setup(_) => true,
+        Problem::TooLarge => true,
+        Problem::TileColumns => true,
+        Problem::TooLong => true,
+        Problem::Load(_) => true,
+    }
+}
+
 fn line(text: &[u8]) {
     io::write_all(STDERR_FILENO, text);
 }

@@ -3,52 +3,100 @@ ghost use Prim.Native.Nat.{_+_, _*_, _≤_};
 ghost use lib.ListN.{length};
 use libc::STDIN_FILENO;
 
-// The ends of n tile columns; false where the input is too short.
-pub fn read_ends(n: usize, ends: &mut [usize]) -> bool
-    requires { ⌜ (n ≤ 255) × (255 ≤ length (now ends)) ⌝ }
+// Reads the first n bytes of buf; false where the input is too short.
+fn read_front(buf: &mut [u8], n: usize) -> bool
+    requires { ⌜ n ≤ length (now buf) ⌝ }
 {
-    let mut bytes = [0u8; 1020];
-    let got = io::read_full(STDIN_FILENO, &mut bytes[..4 * n]);
-    if got < 4 * n {
+    io::read_full(STDIN_FILENO, &mut buf[..n]) == n
+}
+
+pub fn count(b: u8) -> usize
+    ensures { λ r. ⌜ r ≤ 255 ⌝ }
+{
+    b as usize
+}
+
+// The ends of n tile columns; false where the input is too short.
+pub fn read_ends(bytes: &mut [u8], n: usize, ends: &mut [usize]) -> bool
+    requires { ⌜ (4 * n ≤ length (now bytes)) × (n ≤ length (now ends)) × (n ≤ 255) ⌝ }
+{
+    if !read_front(bytes, 4 * n) {
         return false;
     }
-    framefile::read_ends(&bytes, n, ends);
+    framefile::read_ends(bytes, n, ends);
+    true
+}
+
+// A row of n bytes goes to its place in the planes.
+fn put_line(line: &[u8], n: usize, planes: &mut [i8], at: usize)
+    requires { ⌜ (n ≤ length (now line)) × (at + n ≤ length (now planes)) ⌝ }
+{
+    framefile::put_row(&line[..n], planes, at);
+}
+
+fn read_line(line: &mut [u8], n: usize, planes: &mut [i8], at: usize) -> bool
+    requires { ⌜ (n ≤ length (now line)) × (at + n ≤ length (now planes)) ⌝ }
+{
+    if !read_front(line, n) {
+        return false;
+    }
+    put_line(line, n, planes, at);
     true
 }
 
 // A plane's rows, one behind the other in the file, and a stride apart in the planes.
-fn read_plane(wide: usize, high: usize, stride: usize, at: usize, planes: &mut [i8]) -> bool
-    requires { ⌜ (wide ≤ 256) × (wide ≤ stride) × (stride ≤ 256) × (high ≤ 256) × (at + 6 * (high * stride) ≤ length (now planes)) × (length (now planes) ≤ 2752512) ⌝ }
+fn read_plane(
+    line: &mut [u8],
+    wide: usize,
+    high: usize,
+    stride: usize,
+    at: usize,
+    planes: &mut [i8],
+) -> bool
+    requires { ⌜ (6 * wide ≤ length (now line)) × (wide ≤ stride) × (stride ≤ 256) × (high ≤ 256) × (at + 6 * (high * stride) ≤ length (now planes)) ⌝ }
 {
-    let mut line = [0u8; 1536];
-    let bytes = 6 * wide;
     for y in 0..high {
-        let got = io::read_full(STDIN_FILENO, &mut line[..bytes]);
-        if got < bytes {
+        if !read_line(line, 6 * wide, planes, at + 6 * (y * stride)) {
             return false;
         }
-        framefile::put_row(&line[..bytes], planes, at + 6 * (y * stride));
     }
     true
+}
+
+// A plane that the file has, or none.
+fn read_if(
+    here: bool,
+    line: &mut [u8],
+    wide: usize,
+    high: usize,
+    stride: usize,
+    at: usize,
+    planes: &mut [i8],
+) -> bool
+    requires { ⌜ (6 * wide ≤ length (now line)) × (wide ≤ stride) × (stride ≤ 256) × (high ≤ 256) × (at + 6 * (high * stride) ≤ length (now planes)) ⌝ }
+{
+    if !here {
+        return true;
+    }
+    read_plane(line, wide, high, stride, at, planes)
 }
 
 // The planes that the file has; false where the input is too short.
 pub fn read_planes(
     present: [bool; 7],
+    line: &mut [u8],
     wide: usize,
     high: usize,
     stride: usize,
     planes: &mut [i8],
 ) -> bool
-    requires { ⌜ (wide ≤ stride) × (stride ≤ 256) × (high ≤ 256) × (length (now planes) ≡ 2752512) ⌝ }
+    requires { ⌜ (6 * wide ≤ length (now line)) × (wide ≤ stride) × (stride ≤ 256) × (high ≤ 256) × (2752512 ≤ length (now planes)) ⌝ }
 {
     let size = 6 * (high * stride);
     for k in 0..7 {
         let here = present[k];
-        if here {
-            if !read_plane(wide, high, stride, k * size, planes) {
-                return false;
-            }
+        if !read_if(here, line, wide, high, stride, k * size, planes) {
+            return false;
         }
     }
     true
