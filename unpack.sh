@@ -1,5 +1,5 @@
 #!/usr/bin/env bash
-# The main job: proves and builds the program unpack where that is not done yet, and runs it on the
+# Packed vectors as text: proves and builds the program unpack where that is not done yet, and runs it on the
 # file named, or on the shipped sample.
 set -euo pipefail
 root=$(cd "$(dirname "$0")" && pwd)
