@@ -8,7 +8,6 @@ mod write;
 ghost use mathlib.Core.Path.{_≡_};
 ghost use Prim.Native.Nat.{_≤_};
 ghost use lib.ListN.{length};
-use checks::LoadAnswer;
 use frame::Frame;
 use libc::STDIN_FILENO;
 use problems::Problem;
@@ -97,7 +96,15 @@ fn write_field(
     write::write_text(field_y, field_x, field_ref, wide, high, stride, out);
 }
 
-fn load(
+// The loads, and the field's way out.
+fn load_and_write(
+    f: Frame,
+    traj: bool,
+    holes: bool,
+    picture: bool,
+    n: usize,
+    ends: &[usize],
+    planes: &[i8],
     field_y: &mut [i32],
     field_x: &mut [i32],
     field_ref: &mut [u8],
@@ -105,16 +112,12 @@ fn load(
     traj_x: &mut [i32],
     map_y: &mut [i8],
     map_x: &mut [i8],
-    planes: &[i8],
-    f: Frame,
-    traj: bool,
-    holes: bool,
-    ends: &[usize],
-    n: usize,
-) -> LoadAnswer
-    requires { ⌜ (f .height ≤ 2048) × (n ≤ length (now ends)) ⌝ }
+    out: &mut [u8],
+) -> Problem
+    requires { ⌜ (f .width ≤ 2048) × (f .height ≤ 2048) × (n ≤ length (now ends)) ⌝ }
+    requires { ⌜ (65536 ≤ length (now «field_y»)) × (65536 ≤ length (now «field_x»)) × (65536 ≤ length (now «field_ref»)) × (14592 ≤ length (now out)) ⌝ }
 {
-    loads::load_frame(
+    let said = loads::load_frame(
         field_y,
         field_x,
         field_ref,
@@ -127,27 +130,70 @@ fn load(
         traj,
         holes,
         &ends[..n],
+    );
+    if checks::number(said) != 0 {
+        return Problem::Load(said);
+    }
+    write_field(f, picture, field_y, field_x, field_ref, out);
+    Problem::Nothing
+}
+
+// Seven planes of 256 x 256 blocks. Its length is said here, so that no proof counts that far.
+fn no_planes() -> [i8; 2752512]
+    ensures { λ r. ⌜ 2752512 ≡ length r ⌝ }
+{
+    [0; 2752512]
+}
+
+// A load's buffers, for frames up to 2048 x 2048 pixels. The store is empty.
+fn show_loaded(
+    f: Frame,
+    traj: bool,
+    holes: bool,
+    picture: bool,
+    n: usize,
+    ends: &[usize],
+    planes: &[i8],
+    out: &mut [u8],
+) -> Problem
+    requires { ⌜ (f .width ≤ 2048) × (f .height ≤ 2048) × (n ≤ length (now ends)) × (14592 ≤ length (now out)) ⌝ }
+{
+    let mut field_y = [levels::INVALID_MV; 65536];
+    let mut field_x = [0i32; 65536];
+    let mut field_ref = [0u8; 65536];
+    let mut traj_y = [levels::INVALID_MV; 57344];
+    let mut traj_x = [0i32; 57344];
+    let mut map_y = [-128i8; 172032];
+    let mut map_x = [-128i8; 172032];
+    load_and_write(
+        f,
+        traj,
+        holes,
+        picture,
+        n,
+        ends,
+        planes,
+        &mut field_y,
+        &mut field_x,
+        &mut field_ref,
+        &mut traj_y,
+        &mut traj_x,
+        &mut map_y,
+        &mut map_x,
+        out,
     )
 }
 
 // A frame that is set up: the rest of its file, the loads, the field's way out.
-fn show(
+fn show_rest(
     head: &[u8; 103],
     f: Frame,
     picture: bool,
     line: &mut [u8],
     ends: &mut [usize],
     planes: &mut [i8],
-    field_y: &mut [i32],
-    field_x: &mut [i32],
-    field_ref: &mut [u8],
-    traj_y: &mut [i32],
-    traj_x: &mut [i32],
-    map_y: &mut [i8],
-    map_x: &mut [i8],
 ) -> Problem
-    requires { ⌜ (f .width ≤ 2048) × (f .height ≤ 2048) ⌝ }
-    requires { ⌜ (14592 ≤ length (now line)) × (255 ≤ length (now ends)) × (2752512 ≤ length (now planes)) × (65536 ≤ length (now «field_y»)) × (65536 ≤ length (now «field_x»)) × (65536 ≤ length (now «field_ref»)) ⌝ }
+    requires { ⌜ (f .width ≤ 2048) × (f .height ≤ 2048) × (14592 ≤ length (now line)) × (255 ≤ length (now ends)) × (2752512 ≤ length (now planes)) ⌝ }
 {
     let n = read::count(head[102]);
     let problem = read_rest(f, n, line, ends, planes);
@@ -156,43 +202,19 @@ fn show(
     }
     let traj = framefile::is_on(head[100]);
     let holes = framefile::is_on(head[101]);
-    let said = load(
-        field_y,
-        field_x,
-        field_ref,
-        traj_y,
-        traj_x,
-        map_y,
-        map_x,
-        planes,
-        f,
-        traj,
-        holes,
-        ends,
-        n,
-    );
-    if checks::number(said) != 0 {
-        return Problem::Load(said);
-    }
-    write_field(f, picture, field_y, field_x, field_ref, line);
-    Problem::Nothing
+    show_loaded(f, traj, holes, picture, n, ends, planes, line)
 }
 
-fn run(
-    picture: bool,
-    line: &mut [u8],
-    ends: &mut [usize],
-    planes: &mut [i8],
-    field_y: &mut [i32],
-    field_x: &mut [i32],
-    field_ref: &mut [u8],
-    traj_y: &mut [i32],
-    traj_x: &mut [i32],
-    map_y: &mut [i8],
-    map_x: &mut [i8],
-) -> Problem
-    requires { ⌜ (14592 ≤ length (now line)) × (255 ≤ length (now ends)) × (2752512 ≤ length (now planes)) × (65536 ≤ length (now «field_y»)) × (65536 ≤ length (now «field_x»)) × (65536 ≤ length (now «field_ref»)) ⌝ }
+fn show(head: &[u8; 103], f: Frame, picture: bool) -> Problem
+    requires { ⌜ (f .width ≤ 2048) × (f .height ≤ 2048) ⌝ }
 {
+    let mut line = [0u8; 14592];
+    let mut ends = [0usize; 255];
+    let mut planes = no_planes();
+    show_rest(head, f, picture, &mut line, &mut ends, &mut planes)
+}
+
+fn run(picture: bool) -> Problem {
     let mut head = [0u8; 103];
     if io::read_full(STDIN_FILENO, &mut head) < 103 {
         return Problem::TooShort;
@@ -212,61 +234,13 @@ fn run(
     if 2048 < f.height {
         return Problem::TooLarge;
     }
-    show(
-        &head,
-        f,
-        picture,
-        line,
-        ends,
-        planes,
-        field_y,
-        field_x,
-        field_ref,
-        traj_y,
-        traj_x,
-        map_y,
-        map_x,
-    )
-}
-
-// Seven planes of 256 x 256 blocks. Its length is said here, so that no proof counts that far.
-fn no_planes() -> [i8; 2752512]
-    ensures { λ r. ⌜ 2752512 ≡ length r ⌝ }
-{
-    [0; 2752512]
-}
-
-// The buffers, for frames up to 2048 x 2048 pixels. The store is empty.
-fn run_with_buffers(picture: bool) -> Problem {
-    let mut line = [0u8; 14592];
-    let mut ends = [0usize; 255];
-    let mut planes = no_planes();
-    let mut field_y = [levels::INVALID_MV; 65536];
-    let mut field_x = [0i32; 65536];
-    let mut field_ref = [0u8; 65536];
-    let mut traj_y = [levels::INVALID_MV; 57344];
-    let mut traj_x = [0i32; 57344];
-    let mut map_y = [-128i8; 172032];
-    let mut map_x = [-128i8; 172032];
-    run(
-        picture,
-        &mut line,
-        &mut ends,
-        &mut planes,
-        &mut field_y,
-        &mut field_x,
-        &mut field_ref,
-        &mut traj_y,
-        &mut traj_x,
-        &mut map_y,
-        &mut map_x,
-    )
+    show(&head, f, picture)
 }
 
 fn main() {
     match asked() {
-        Wanted::Text => problems::tell(run_with_buffers(false)),
-        Wanted::Picture => problems::tell(run_with_buffers(true)),
+        Wanted::Text => problems::tell(run(false)),
+        Wanted::Picture => problems::tell(run(true)),
         Wanted::Usage => problems::tell(Problem::Usage),
     }
 }
