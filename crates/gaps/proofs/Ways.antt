@@ -1,10 +1,14 @@
 -- The ways through the programs of gap filling, as code has them. Assumes nothing.
 use mathlib.Core.Path.{_≡_, refl, sym, ap, _∙_}
 use mathlib.Core.Bool.{Bool, true, false, _&&_}
-use Prim.Native.Nat.{ℕ, _+_, _/_}
+use Prim.Native.Nat.{ℕ, _+_, _/_, _≤_}
+use native.Mathlib.Omega.{arith}
 use lib.ListN.{getD}
 use Rattle.levels.specs.declared.Mv.{Mv}
-use Rattle.mv.specs.Sums.{isEmpty, noSum, added, gapOf}
+use Rattle.levels.specs.Vector.{empty}
+use Rattle.mv.specs.declared.Sum.{Sum}
+use Rattle.mv.specs.Sums.{isEmpty, noSum, added, gapOf, Fair}
+use Rattle.mv.proofs.Sums.{gap-of-one}
 use Rattle.store.specs.Store.{Store, fieldMvs, fieldRefs, byteCell}
 use Rattle.store.specs.Program.{Prog, run}
 use Rattle.tile.specs.declared.Tile.{Tile}
@@ -23,6 +27,10 @@ beside-run : (t : Tile) (l : Lists) (i n : ℕ) (f : Mv → Prog) (there : Bool)
     → run (owns t) (beside there i (byteCell n) f) (within s l) ≡ run (owns t) (f (besideOf there n i (l .y) (l .x) (l .ref))) (within s l)
 beside-run t l i n f true o s = let q = o refl in rw (q .0, q .1)
 beside-run t l i n f false o s = refl
+
+-- a neighbour that is empty changes neither the mean nor the sum
+pub stays : (v : Mv) (s : Sum) → isEmpty v ≡ false → Fair s → (v ≡ gapOf (added empty (added v noSum))) × (s ≡ added empty s) × Fair s × (s .n ≤ s .n) × (s .n ≤ s .n + 1)
+stays v s e f = (sym (gap-of-one v e), refl, f, omega arith, omega arith)
 
 put-on : (t : Tile) (k : Sound t) (y x : ℕ) → ownBlock t (x / t .block + 1) ≡ true → (l n : Lists) (i : ℕ) (v w : Mv) (r : ℕ) → i ≡ fieldAt t y x → v ≡ w → Set n l i v r
     → (s : Store) → within s n ≡ run (owns t) (put (fieldAt t y x) w r) (within s l)

@@ -66,6 +66,14 @@ average-fits n s k bits h =
 pub averaged : (n : ℕ) (s : ℤ) (k bits : ℕ) → SumOf n s → k ≡ 2 ^ bits / n → 1 ≤ bits → bits ≤ 16 → Averaged n s k bits
 averaged n s k bits h e l u = record { sum = h; part = rw (e, mul-comm n (2 ^ bits / n)) (div-mul-le-self (2 ^ bits) n); some = l; few = u }
 
+-- the mean of one is that one
+pub gap-alone : (z : ℤ) → gapMean 1 z ≡ z
+unfolding gapMean roundDiv
+gap-alone (pos m) = ap pos (omega arith)
+gap-alone (negsuc m) =
+    let e : quot 256 (suc m * 256) ≡ suc m = omega arith in
+    round-neg 256 (suc m * 256) (omega arith) ∙ ap (λ (n : ℕ). negℤ (pos n)) e
+
 -- the mean of two that are one is that one
 pub gap-twice : (z : ℤ) → gapMean 2 (z +ℤ z) ≡ gapMean 1 (pos 0 +ℤ z)
 unfolding gapMean

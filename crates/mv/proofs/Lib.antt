@@ -1,3 +1,4 @@
 pub mod Averages
 pub mod Packing
 pub mod Projection
+pub mod Sums
