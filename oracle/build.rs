@@ -50,10 +50,12 @@ fn main() {
     let out = PathBuf::from(env::var_os("OUT_DIR").unwrap()).join("published.rs");
     fs::write(out, declarations).unwrap();
 
-    println!("cargo::rustc-link-search=native={}", library.display());
+    // The program `definitions` calls nothing of the library, and is built without it.
     for name in ["refmvs", "passes"] {
-        let hint = format!("run `rt staticlib {name}`");
-        need(&library.join(format!("lib{name}.a")), &hint);
-        println!("cargo::rustc-link-lib=static={name}");
+        let archive = library.join(format!("lib{name}.a"));
+        println!("cargo::rerun-if-changed={}", archive.display());
+        for program in ["oracle", "bench"] {
+            println!("cargo::rustc-link-arg-bin={program}={}", archive.display());
+        }
     }
 }

@@ -1,19 +1,10 @@
+//! The library beside the published Rust.
 use std::io;
 use std::process::ExitCode;
 
-use oracle::loads::{self, Sides};
-use oracle::{answers, antt, args, compare, definitions, frames, kept, library, passes, unpack};
+use oracle::{args, compare, frames, library, passes, unpack};
 
 const USAGE: &str = "usage: oracle compare [--seed N]
-       oracle answers [--seed N]
-       oracle definitions [--seed N]
-       oracle definitions --natives
-       oracle loads COUNT [--seed N]
-       oracle loads --clauses COUNT [--seed N]
-       oracle loads --published COUNT [--seed N]
-       oracle loads --case N
-       oracle loads --keep [--seed N]
-       oracle loads --kept FILE
        oracle library LOADS [--seed N]
        oracle passes COUNT [--seed N]
        oracle passes --keep [--seed N]
@@ -30,29 +21,6 @@ fn run(args: &[String]) -> Option<io::Result<bool>> {
     let (name, rest) = args.split_first()?;
     match (name.as_str(), rest) {
         ("compare", _) => Some(Ok(compare::run(args::seed(rest)?))),
-        ("answers", _) => Some(answers::write(args::seed(rest)?).map(|()| true)),
-        ("definitions", [natives]) if natives == "--natives" => {
-            print!("{}", antt::natives::text());
-            Some(Ok(true))
-        }
-        ("definitions", _) => Some(Ok(definitions::run(args::seed(rest)?))),
-        ("loads", [keep, rest @ ..]) if keep == "--keep" => {
-            Some(kept::write(args::seed(rest)?).map(|()| true))
-        }
-        ("loads", [kept, file]) if kept == "--kept" => Some(loads::kept(file)),
-        ("loads", [case, seed]) if case == "--case" => Some(loads::one(seed.parse().ok()?)),
-        ("loads", [published, count, rest @ ..]) if published == "--published" => {
-            let count = count.parse().ok()?;
-            Some(loads::run(args::seed(rest)?, count, Sides::Published))
-        }
-        ("loads", [clauses, count, rest @ ..]) if clauses == "--clauses" => {
-            let count = count.parse().ok()?;
-            Some(loads::run(args::seed(rest)?, count, Sides::Clauses))
-        }
-        ("loads", [count, rest @ ..]) => {
-            let count = count.parse().ok()?;
-            Some(loads::run(args::seed(rest)?, count, Sides::Both))
-        }
         ("library", [count, rest @ ..]) => {
             let count = count.parse().ok()?;
             Some(library::run(args::seed(rest)?, count))
@@ -93,16 +61,5 @@ fn frames(word: &str, rest: &[String]) -> Option<io::Result<bool>> {
 }
 
 fn main() -> ExitCode {
-    let args: Vec<String> = std::env::args().skip(1).collect();
-    match run(&args) {
-        None => {
-            eprintln!("{USAGE}");
-            ExitCode::from(2)
-        }
-        Some(Err(error)) => {
-            eprintln!("oracle: {error}");
-            ExitCode::from(2)
-        }
-        Some(Ok(agreed)) => ExitCode::from(u8::from(!agreed)),
-    }
+    args::main(USAGE, run)
 }
