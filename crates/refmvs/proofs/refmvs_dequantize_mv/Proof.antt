@@ -7,14 +7,10 @@ use Rattle.refmvs.proofs.refmvs_dequantize_mv.Tie as tie
 dequantize-mv-requires : tie.Need-dequantize-mv-requires
 dequantize-mv-requires c κs = search needs
 
-put-mv-requires : tie.Need-put-mv-requires
-put-mv-requires c κs = search needs
-
 returns : tie.Need-returns
 returns c =
-    let s = c .before .before .before in let y = s .fits .y in let x = s .fits .x in
-    let e = simp back at (c .before .before .dequantize-mv .ensures) in
-    rw (← e) (c .put-mv .ensures)
+    let s = c .before .before in let y = s .fits .y in let x = s .fits .x in
+    simp back at (c .dequantize-mv .ensures)
 
 pub refmvs-dequantize-mv-spec : {M : Type 1} → statement M
-refmvs-dequantize-mv-spec = tie.close (tie.spec dequantize-mv-requires put-mv-requires returns)
+refmvs-dequantize-mv-spec = tie.close (tie.spec dequantize-mv-requires returns)

@@ -1,6 +1,5 @@
 -- `refmvs::refmvs_load_tmvs` meets its contract. Assumes nothing.
 use borrow.Author.Needs.{needs}
-use mathlib.Core.Path.{_∙_}
 use Rattle.refmvs.proofs.refmvs_load_tmvs.Statement.{statement}
 use Rattle.refmvs.proofs.refmvs_load_tmvs.Tie as tie
 
@@ -39,8 +38,8 @@ same-length-7 c = search needs
 
 returns : tie.Need-returns
 returns c =
-    let m = c .before .before .before .before .before .before .before .before .before in let e = rw (m .before .before .before .before .before .before .before .before .frame-of .ensures) at (m .load-tmvs .ensures) in
-    (c .number .ensures ∙ e .0, e .1)
+    let m = c .before .before .before .before .before .before .before .before .before in
+    rw (c .number .ensures, ← m .before .before .before .before .before .before .before .before .frame-of .ensures) (m .load-tmvs .ensures)
 
 pub refmvs-load-tmvs-spec : {M : Type 1} → statement M
 refmvs-load-tmvs-spec =

@@ -1,8 +1,5 @@
 -- `refmvs::refmvs_quantize_mv` meets its contract. Assumes nothing.
 use borrow.Author.Needs.{needs}
-use mathlib.Core.Path.{refl}
-use mir.Syntax.{w8}
-use mir.Val.{SFits}
 use Rattle.intops.proofs.Signed.{back}
 use Rattle.refmvs.proofs.refmvs_quantize_mv.Statement.{statement}
 use Rattle.refmvs.proofs.refmvs_quantize_mv.Tie as tie
@@ -10,19 +7,10 @@ use Rattle.refmvs.proofs.refmvs_quantize_mv.Tie as tie
 quantize-mv-requires : tie.Need-quantize-mv-requires
 quantize-mv-requires c κs = search needs
 
-element-set-from-qy : tie.Need-element-set-from-qy
-element-set-from-qy c = search needs
-
-element-set-from-qx : tie.Need-element-set-from-qx
-element-set-from-qx c = search needs
-
 returns : tie.Need-returns
 returns c =
-    let q = c .before .before in let s = q .before in let y = s .fits .y in let x = s .fits .x in
-    let f : SFits w8 (q .quantize-mv .result .y) = search needs in let g : SFits w8 (q .quantize-mv .result .x) = search needs in
-    let e = simp back at (q .quantize-mv .ensures) in
-    rw (← e) (simp back (record { number = refl; buffer = refl }))
+    let s = c .before .before in let y = s .fits .y in let x = s .fits .x in
+    simp back at (c .quantize-mv .ensures)
 
 pub refmvs-quantize-mv-spec : {M : Type 1} → statement M
-refmvs-quantize-mv-spec =
-    tie.close (tie.spec quantize-mv-requires element-set-from-qy element-set-from-qx returns)
+refmvs-quantize-mv-spec = tie.close (tie.spec quantize-mv-requires returns)

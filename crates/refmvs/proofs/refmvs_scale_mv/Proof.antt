@@ -7,14 +7,10 @@ use Rattle.refmvs.proofs.refmvs_scale_mv.Tie as tie
 scale-mv-requires : tie.Need-scale-mv-requires
 scale-mv-requires c κs = search needs
 
-put-mv-requires : tie.Need-put-mv-requires
-put-mv-requires c κs = search needs
-
 returns : tie.Need-returns
 returns c =
-    let s = c .before .before .before in let y = s .fits .y in let x = s .fits .x in let sf = s .fits .sf in
-    let e = simp back at (c .before .before .scale-mv .ensures) in
-    rw (← e) (c .put-mv .ensures)
+    let s = c .before .before in let y = s .fits .y in let x = s .fits .x in let sf = s .fits .sf in
+    simp back at (c .scale-mv .ensures)
 
 pub refmvs-scale-mv-spec : {M : Type 1} → statement M
-refmvs-scale-mv-spec = tie.close (tie.spec scale-mv-requires put-mv-requires returns)
+refmvs-scale-mv-spec = tie.close (tie.spec scale-mv-requires returns)

@@ -1,12 +1,12 @@
--- `refmvs::put_mv` meets its contract. Assumes nothing.
+-- `lent::put_mv` meets its contract. Assumes nothing.
 use borrow.Author.Needs.{needs}
 use mathlib.Core.Path.{_≡_, refl}
 use mir.Syntax.{w32}
 use mir.Val.{SFits}
 use Rattle.levels.specs.declared.MvAnswer.the-variants.{Vector, OutOfRange, HalfMark}
 use Rattle.intops.proofs.Signed.{back}
-use Rattle.refmvs.proofs.put_mv.Statement.{statement}
-use Rattle.refmvs.proofs.put_mv.Tie as tie
+use Rattle.lent.proofs.put_mv.Statement.{statement}
+use Rattle.lent.proofs.put_mv.Tie as tie
 
 enum-known-answer : tie.Need-enum-known-answer
 enum-known-answer c = search needs

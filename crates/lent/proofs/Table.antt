@@ -6,7 +6,7 @@ use Rattle.mv.specs.Packing.{packCode, unpackMag, firstWith}
 use Rattle.mv.specs.Projection.{pastRange, projectionFactor, reciprocal, scaledBy}
 use Rattle.mv.specs.Averages.{smoothed, gapMean}
 use Rattle.env.specs.Hints.{hintDiff}
-use Rattle.refmvs.specs.Table.{Table}
+use Rattle.lent.specs.Table.{Table}
 
 pub table : Table
 unfolding highestBit highestFrom roundDiv packCode unpackMag firstWith pastRange projectionFactor reciprocal scaledBy smoothed gapMean hintDiff

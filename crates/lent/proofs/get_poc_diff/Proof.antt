@@ -1,12 +1,12 @@
--- `refmvs::refmvs_get_poc_diff` meets its contract. Assumes nothing.
+-- `lent::get_poc_diff` meets its contract. Assumes nothing.
 use borrow.Author.Needs.{needs}
 use mathlib.Core.Path.{_≡_, refl}
 use mir.Syntax.{w32}
 use mir.Val.{SFits}
 use Rattle.env.specs.declared.PocDiff.the-variants.{Diff, TooManyBits}
 use Rattle.intops.proofs.Signed.{back}
-use Rattle.refmvs.proofs.refmvs_get_poc_diff.Statement.{statement}
-use Rattle.refmvs.proofs.refmvs_get_poc_diff.Tie as tie
+use Rattle.lent.proofs.get_poc_diff.Statement.{statement}
+use Rattle.lent.proofs.get_poc_diff.Tie as tie
 
 get-poc-diff-requires : tie.Need-get-poc-diff-requires
 get-poc-diff-requires c κs = search needs
@@ -33,7 +33,7 @@ returns-2 c =
     let e : p .get-poc-diff .result ≡ TooManyBits = search needs in
     rw (← p .get-poc-diff .ensures, e) (record { number = refl; buffer = refl })
 
-pub refmvs-get-poc-diff-spec : {M : Type 1} → statement M
-refmvs-get-poc-diff-spec =
+pub get-poc-diff-spec : {M : Type 1} → statement M
+get-poc-diff-spec =
     tie.close
     (tie.spec get-poc-diff-requires enum-known-d element-set-from-d enum-told returns returns-2)

@@ -1,10 +1,10 @@
--- `refmvs::header_of` meets its contract. Assumes nothing.
+-- `c_setup::header_of` meets its contract. Assumes nothing.
 use borrow.Author.Needs.{needs}
 use mir.Syntax.{w8}
 use mir.Val.{SFits}
 use Rattle.intops.proofs.Signed.{back}
-use Rattle.refmvs.proofs.header_of.Statement.{statement}
-use Rattle.refmvs.proofs.header_of.Tie as tie
+use Rattle.c_setup.proofs.header_of.Statement.{statement}
+use Rattle.c_setup.proofs.header_of.Tie as tie
 
 cast-t8 : tie.Need-cast-t8
 cast-t8 c = search needs

@@ -1,10 +1,10 @@
--- `refmvs::frame_of` meets its contract. Assumes nothing.
+-- `c_setup::frame_of` meets its contract. Assumes nothing.
 use borrow.Author.Needs.{needs}
 use mir.Syntax.{w8}
 use mir.Val.{SFits}
 use Rattle.intops.proofs.Signed.{back}
-use Rattle.refmvs.proofs.frame_of.Statement.{statement}
-use Rattle.refmvs.proofs.frame_of.Tie as tie
+use Rattle.c_setup.proofs.frame_of.Statement.{statement}
+use Rattle.c_setup.proofs.frame_of.Tie as tie
 
 switches-requires : tie.Need-switches-requires
 switches-requires c κs = search needs

@@ -8,9 +8,9 @@ use Rattle.loops.specs.Seven.{seven}
 use Rattle.frame.specs.declared.Header.{Header}
 use Rattle.frame.specs.declared.Frame.{Frame}
 use Rattle.frame.specs.Frame.{SaidSetup}
-use Rattle.refmvs.specs.declared.CHeader.{CHeader}
-use Rattle.refmvs.specs.declared.CFrame.{CFrame}
-use Rattle.refmvs.specs.declared.CSetup.{CSetup}
+use Rattle.c_setup.specs.declared.CHeader.{CHeader}
+use Rattle.c_setup.specs.declared.CFrame.{CFrame}
+use Rattle.c_setup.specs.declared.CSetup.{CSetup}
 
 -- a switch is on where its byte is not 0
 abbrev pub on : ℕ → Bool
