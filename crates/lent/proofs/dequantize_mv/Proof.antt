@@ -14,7 +14,7 @@ returns : tie.Need-returns
 returns c =
     let s = c .before .before .before in let y = s .fits .y in let x = s .fits .x in
     let e = simp back at (c .before .before .dequantize-mv .ensures) in
-    rw (← e) (c .put-mv .ensures)
+    rw e at (c .put-mv .ensures)
 
 pub dequantize-mv-spec : {M : Type 1} → statement M
 dequantize-mv-spec = tie.close (tie.spec dequantize-mv-requires put-mv-requires returns)

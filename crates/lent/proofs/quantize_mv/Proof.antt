@@ -21,7 +21,7 @@ returns c =
     let q = c .before .before in let s = q .before in let y = s .fits .y in let x = s .fits .x in
     let f : SFits w8 (q .quantize-mv .result .y) = search needs in let g : SFits w8 (q .quantize-mv .result .x) = search needs in
     let e = simp back at (q .quantize-mv .ensures) in
-    rw (← e) (simp back (record { number = refl; buffer = refl }))
+    simp back (record { number = refl; buffer = rw e })
 
 pub quantize-mv-spec : {M : Type 1} → statement M
 quantize-mv-spec =
