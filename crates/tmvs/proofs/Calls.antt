@@ -18,7 +18,7 @@ use Rattle.load.specs.Load.{Call, strideOf, tileOf, loadTmvs}
 use Rattle.load.specs.Calls.{sourceFine, trajsInRange, contentsFine, answer, load}
 use Rattle.load.proofs.Accepted.{passed, in-range, columns, sound}
 use Rattle.load.proofs.Held.{long, field-held, traj-held, map-held}
-use Rattle.tmvs.specs.Code.{SourcesFine}
+use Rattle.sources.specs.Code.{SourcesFine}
 
 -- what `load_tile` asks
 abbrev Ready : Call → Store → Tile → Type 0

@@ -1,4 +1,4 @@
--- `tmvs::load_tile` meets its contract. Assumes nothing.
+-- `load_tile::load_tile` meets its contract. Assumes nothing.
 use borrow.Author.Needs.{needs}
 use mathlib.Core.Path.{sym, ap, _∙_}
 use mir.Val.{SFits}
@@ -11,9 +11,9 @@ use Rattle.field.proofs.Lists as field-lists
 use Rattle.traj.proofs.Lists.{trajs-held}
 use Rattle.source.proofs.Rounds.{still-held}
 use Rattle.store.specs.Store.{pack}
-use Rattle.tmvs.proofs.Ways.{tile-loaded}
-use Rattle.tmvs.proofs.load_tile.Statement.{statement}
-use Rattle.tmvs.proofs.load_tile.Tie as tie
+use Rattle.load_tile.proofs.Order.{tile-loaded}
+use Rattle.load_tile.proofs.load_tile.Statement.{statement}
+use Rattle.load_tile.proofs.load_tile.Tie as tie
 
 delta-fits : (c : tie.After-struct-told) → SFits w8 (c .before .before .before .before .before .before .before .before .before .before .before .before .before .before .before .before .before .before .before .before .before .before .before .before .before .before .before .before .before .before .before .before .before .before .before .before .before .before .before .before .before .before .before .before .before .before .before .before .args .setup .tip .delta)
 delta-fits c = search needs

@@ -1,12 +1,12 @@
--- `tmvs::fill_gap_trajs` meets its contract. Assumes nothing.
+-- `stages::fill_gap_trajs` meets its contract. Assumes nothing.
 use Prim.Native.Nat.{_-_}
 use native.Mathlib.Omega.{arith}
 use Rattle.store.proofs.Lent.{At, at-holds, at-again, at-done, two, like-two}
 use Rattle.tile.specs.Owner.{owns}
 use Rattle.traj.specs.Traj.{fillGapTraj}
 use Rattle.traj.proofs.Lists.{trajs-lent, trajs-held}
-use Rattle.tmvs.proofs.fill_gap_trajs.Statement.{statement}
-use Rattle.tmvs.proofs.fill_gap_trajs.Tie as tie
+use Rattle.stages.proofs.fill_gap_trajs.Statement.{statement}
+use Rattle.stages.proofs.fill_gap_trajs.Tie as tie
 
 abbrev Inv-loop : tie.InvT-loop
 Inv-loop traj-y₀ traj-x₀ t n-refs n₀ traj-y traj-x n = At trajs-lent (owns t) (fillGapTraj t) 0 n-refs n (two traj-y traj-x) (two traj-y₀ traj-x₀)

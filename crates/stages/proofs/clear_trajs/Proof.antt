@@ -1,11 +1,11 @@
--- `tmvs::clear_trajs` meets its contract. Assumes nothing.
+-- `stages::clear_trajs` meets its contract. Assumes nothing.
 use borrow.Author.Needs.{needs}
 use borrow.Author.Tests.{not-true, not-false}
 use Rattle.traj.specs.Traj.{emptyTrajs}
 use Rattle.store.proofs.Switch.{off, on}
 use Rattle.tile.specs.Owner.{owns}
-use Rattle.tmvs.proofs.clear_trajs.Statement.{statement}
-use Rattle.tmvs.proofs.clear_trajs.Tie as tie
+use Rattle.stages.proofs.clear_trajs.Statement.{statement}
+use Rattle.stages.proofs.clear_trajs.Tie as tie
 
 returns : tie.Need-returns
 returns c = let a = c .before .args in λ s. off (owns (a .t)) (a .traj) (emptyTrajs (a .t)) (not-true (a .traj) (c .if1 .taken)) _

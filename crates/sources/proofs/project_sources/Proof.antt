@@ -1,4 +1,4 @@
--- `tmvs::project_sources` meets its contract. Assumes nothing.
+-- `sources::project_sources` meets its contract. Assumes nothing.
 use borrow.Author.Needs.{needs}
 use mathlib.Core.Path.{_≡_, sym, ap, _∙_}
 use mathlib.Core.Bool.{true, false}
@@ -14,10 +14,10 @@ use Rattle.project.proofs.Tested.{slots-low}
 use Rattle.source.proofs.Rounds.{still-held}
 use Rattle.checks.specs.Code.{isFine}
 use Rattle.checks.proofs.Defaults.{bare, in-range-at, fine-default}
-use Rattle.tmvs.proofs.Defaults.{source-at, looked}
-use Rattle.tmvs.proofs.Ways.{sourceAt, sources-done}
-use Rattle.tmvs.proofs.project_sources.Statement.{statement}
-use Rattle.tmvs.proofs.project_sources.Tie as tie
+use Rattle.sources.proofs.Defaults.{source-at, looked}
+use Rattle.sources.proofs.Rounds.{sourceAt, sources-done}
+use Rattle.sources.proofs.project_sources.Statement.{statement}
+use Rattle.sources.proofs.project_sources.Tie as tie
 
 abbrev Inv-loop : tie.InvT-loop
 Inv-loop field-y₀ field-x₀ field-ref₀ traj-y₀ traj-x₀ map-y₀ map-x₀ planes t traj present sources count n₀ field-y field-x field-ref traj-y traj-x map-y map-x n = At whole-lent (owns t) (sourceAt t traj present planes sources) 0 count n (pack field-y field-x field-ref traj-y traj-x map-y map-x) (pack field-y₀ field-x₀ field-ref₀ traj-y₀ traj-x₀ map-y₀ map-x₀)

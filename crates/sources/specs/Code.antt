@@ -1,4 +1,4 @@
--- What the contracts of a load's code speak of besides the definitions. Assumes nothing.
+-- What the contracts of the loop over a load's sources speak of besides the definitions. Assumes nothing.
 use mathlib.Core.Path.{_≡_}
 use mathlib.Core.Bool.{Bool, true, false}
 use mathlib.Core.List.{List}
@@ -7,11 +7,9 @@ use lib.IntN.{ℤ}
 use lib.ListN.{getD}
 use Rattle.entry.specs.declared.Source.{Source}
 use Rattle.frame.specs.declared.Sources.{Sources}
-use Rattle.frame.specs.declared.Frame.{Frame}
 use Rattle.frame.specs.Frame.{noSource}
 use Rattle.tile.specs.declared.Tile.{Tile}
 use Rattle.project.specs.Tested.{sourceInRange}
-use Rattle.load.specs.Load.{Call}
 use Rattle.checks.specs.Code.{isFine}
 
 -- source n of a setup
@@ -23,11 +21,3 @@ pub record SourcesFine (t : Tile) (present : List Bool) (planes : List ℤ) (f :
   pub few : f .«n_mfmvs» ≤ 4
   pub range : (n : ℕ) → n < f .«n_mfmvs» → sourceInRange (nth f n) ≡ true
   pub blocks : (n : ℕ) → n < f .«n_mfmvs» → isFine t planes (getD present (nth f n .reference .0) false) (nth f n) ≡ true
-
--- what a call asks for besides its tile
-pub record Asked (c : Call) (f : Frame) (w j h : Bool) (l : List ℤ) : Type 0 where
-  pub setup : c .setup ≡ f
-  pub wholeFrame : c .wholeFrame ≡ w
-  pub traj : c .traj ≡ j
-  pub holes : c .holes ≡ h
-  pub planes : c .planes ≡ l

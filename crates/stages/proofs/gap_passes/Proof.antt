@@ -1,10 +1,10 @@
--- `tmvs::gap_passes` meets its contract. Assumes nothing.
+-- `stages::gap_passes` meets its contract. Assumes nothing.
 use borrow.Author.Needs.{needs}
 use Rattle.store.proofs.Lent.{two}
 use Rattle.field.proofs.Lists.{lists}
-use Rattle.tmvs.proofs.Ways.{step-two, gaps-off, gaps-on}
-use Rattle.tmvs.proofs.gap_passes.Statement.{statement}
-use Rattle.tmvs.proofs.gap_passes.Tie as tie
+use Rattle.stages.proofs.Ways.{step-two, gaps-off, gaps-on}
+use Rattle.stages.proofs.gap_passes.Statement.{statement}
+use Rattle.stages.proofs.gap_passes.Tie as tie
 
 returns : tie.Need-returns
 returns c = let a = c .before .before .before .args in λ q e s. gaps-off (a .t) q (c .if1 .taken) _

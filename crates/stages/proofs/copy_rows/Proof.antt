@@ -1,12 +1,12 @@
--- `tmvs::copy_rows` meets its contract. Assumes nothing.
+-- `stages::copy_rows` meets its contract. Assumes nothing.
 use borrow.Author.Needs.{needs}
 use mathlib.Core.Path.{ap}
 use mathlib.Core.Bool.{not}
 use Rattle.field.specs.Field.{copyAbove}
 use Rattle.store.proofs.Switch.{off, on}
 use Rattle.tile.specs.Owner.{owns}
-use Rattle.tmvs.proofs.copy_rows.Statement.{statement}
-use Rattle.tmvs.proofs.copy_rows.Tie as tie
+use Rattle.stages.proofs.copy_rows.Statement.{statement}
+use Rattle.stages.proofs.copy_rows.Tie as tie
 
 returns : tie.Need-returns
 returns c = let a = c .before .before .args in λ s. off (owns (a .t)) (not (a .whole-frame)) (copyAbove (a .t)) (ap not (c .if1 .taken)) _
