@@ -1,7 +1,11 @@
 // Lines of a word and decimal numbers, one space between two. `#` starts a comment line; empty
 // lines are passed over. The reader is a machine that takes one byte at a time: its state is small
 // and goes by value; what was read, the line's word and its numbers lie in lent buffers.
+ghost use mathlib.Core.Path.{_≡_};
 ghost use Rattle.io.specs.Counts.{Counts};
+ghost use Prim.Native.Nat.{_-_, _^_, _≤_, min};
+ghost use lib.ListN.{length};
+ghost use Rattle.lines.specs.Line.{isLetter, isDigit, finds, bytes, oneMore, before, nextLine, pushLetter, startStep, wordStep, pushDigit, numberStep, valueOf, endNumber, endLine, digitsStep, commentStep, reader, step, steps, endInput, ReadSome, Reads, putIn};
 use libc::STDIN_FILENO;
 
 pub mod report;
@@ -50,7 +54,9 @@ enum Value {
 }
 
 // Before the first line.
-pub fn start() -> State {
+pub fn start() -> State
+    ensures { λ r. ⌜ r ≡ before 0 0 0 ⌝ }
+{
     State {
         found: NOTHING,
         line: 0,
@@ -65,11 +71,15 @@ pub fn start() -> State {
 }
 
 // One more, for a count that no run uses up.
-pub fn one_more(n: u64) -> u64 {
+pub fn one_more(n: u64) -> u64
+    ensures { λ r. ⌜ r ≡ oneMore n ⌝ }
+{
     if n < u64::MAX { n + 1 } else { n }
 }
 
-fn line_after(s: State) -> State {
+fn line_after(s: State) -> State
+    ensures { λ r. ⌜ r ≡ nextLine s ⌝ }
+{
     let mut next = start();
     next.line = one_more(s.line);
     next.at = s.at;
@@ -77,20 +87,28 @@ fn line_after(s: State) -> State {
     next
 }
 
-fn finds(mut s: State, what: usize) -> State {
+fn finds(mut s: State, what: usize) -> State
+    ensures { λ r. ⌜ r ≡ finds what s ⌝ }
+{
     s.found = what;
     s
 }
 
-fn is_letter(b: u8) -> bool {
+fn is_letter(b: u8) -> bool
+    ensures { λ r. ⌜ r ≡ isLetter b ⌝ }
+{
     ((b'a' <= b) & (b <= b'z')) | (b == b'_')
 }
 
-fn is_digit(b: u8) -> bool {
+fn is_digit(b: u8) -> bool
+    ensures { λ r. ⌜ r ≡ isDigit b ⌝ }
+{
     (b'0' <= b) & (b <= b'9')
 }
 
-fn push_letter(mut s: State, b: u8, word: &mut [u8]) -> State {
+fn push_letter(mut s: State, b: u8, word: &mut [u8]) -> State
+    ensures { λ r. ⌜ (r, now (word .exit)) ≡ pushLetter b s (now (word .entry)) ⌝ }
+{
     let n = s.letters;
     if word.len() <= n {
         return finds(s, NOT_A_LINE);
@@ -101,7 +119,9 @@ fn push_letter(mut s: State, b: u8, word: &mut [u8]) -> State {
     s
 }
 
-fn at_start(mut s: State, b: u8, word: &mut [u8]) -> State {
+fn at_start(mut s: State, b: u8, word: &mut [u8]) -> State
+    ensures { λ r. ⌜ (r, now (word .exit)) ≡ startStep b s (now (word .entry)) ⌝ }
+{
     if b == b'\n' {
         return line_after(s);
     }
@@ -115,7 +135,9 @@ fn at_start(mut s: State, b: u8, word: &mut [u8]) -> State {
     finds(s, NOT_A_LINE)
 }
 
-fn in_word(mut s: State, b: u8, word: &mut [u8]) -> State {
+fn in_word(mut s: State, b: u8, word: &mut [u8]) -> State
+    ensures { λ r. ⌜ (r, now (word .exit)) ≡ wordStep b s (now (word .entry)) ⌝ }
+{
     if is_letter(b) {
         return push_letter(s, b, word);
     }
@@ -127,7 +149,9 @@ fn in_word(mut s: State, b: u8, word: &mut [u8]) -> State {
 }
 
 // A magnitude above 2^63 is refused when the number ends.
-fn push_digit(mut s: State, b: u8) -> State {
+fn push_digit(mut s: State, b: u8) -> State
+    ensures { λ r. ⌜ r ≡ pushDigit b s ⌝ }
+{
     let m = s.magnitude;
     if !is_digit(b) {
         return finds(s, NOT_A_LINE);
@@ -140,7 +164,9 @@ fn push_digit(mut s: State, b: u8) -> State {
     s
 }
 
-fn before_number(mut s: State, b: u8) -> State {
+fn before_number(mut s: State, b: u8) -> State
+    ensures { λ r. ⌜ r ≡ numberStep b s ⌝ }
+{
     if (b == b'-') & !s.is_negative {
         s.is_negative = true;
         return s;
@@ -148,7 +174,9 @@ fn before_number(mut s: State, b: u8) -> State {
     push_digit(s, b)
 }
 
-fn value_of(is_negative: bool, m: u64) -> Value {
+fn value_of(is_negative: bool, m: u64) -> Value
+    ensures { λ r. ⌜ r ≡ valueOf «is_negative» m ⌝ }
+{
     if m <= 9223372036854775807 {
         let v = m as i64;
         if is_negative {
@@ -162,7 +190,9 @@ fn value_of(is_negative: bool, m: u64) -> Value {
     Value::TooLarge
 }
 
-fn end_number(mut s: State, numbers: &mut [i64]) -> State {
+fn end_number(mut s: State, numbers: &mut [i64]) -> State
+    ensures { λ r. ⌜ (r, now (numbers .exit)) ≡ endNumber s (now (numbers .entry)) ⌝ }
+{
     let n = s.count;
     if numbers.len() <= n {
         return finds(s, NOT_A_LINE);
@@ -178,14 +208,18 @@ fn end_number(mut s: State, numbers: &mut [i64]) -> State {
     s
 }
 
-fn end_line(s: State) -> State {
+fn end_line(s: State) -> State
+    ensures { λ r. ⌜ r ≡ endLine s ⌝ }
+{
     if s.found != NOTHING {
         return s;
     }
     finds(s, LINE)
 }
 
-fn in_digits(s: State, b: u8, numbers: &mut [i64]) -> State {
+fn in_digits(s: State, b: u8, numbers: &mut [i64]) -> State
+    ensures { λ r. ⌜ (r, now (numbers .exit)) ≡ digitsStep b s (now (numbers .entry)) ⌝ }
+{
     if b == b' ' {
         return end_number(s, numbers);
     }
@@ -195,14 +229,18 @@ fn in_digits(s: State, b: u8, numbers: &mut [i64]) -> State {
     push_digit(s, b)
 }
 
-fn in_comment(s: State, b: u8) -> State {
+fn in_comment(s: State, b: u8) -> State
+    ensures { λ r. ⌜ r ≡ commentStep b s ⌝ }
+{
     if b == b'\n' {
         return line_after(s);
     }
     s
 }
 
-fn step(s: State, b: u8, word: &mut [u8], numbers: &mut [i64]) -> State {
+fn step(s: State, b: u8, word: &mut [u8], numbers: &mut [i64]) -> State
+    ensures { λ r. ⌜ reader r (now (word .exit)) (now (numbers .exit)) ≡ step b (reader s (now (word .entry)) (now (numbers .entry))) ⌝ }
+{
     let place = s.place;
     match place {
         START => at_start(s, b, word),
@@ -214,8 +252,10 @@ fn step(s: State, b: u8, word: &mut [u8], numbers: &mut [i64]) -> State {
 }
 
 // The bytes that were read, up to the end of a line.
-fn steps(before: State, input: &[u8], word: &mut [u8], numbers: &mut [i64]) -> State {
-    let mut s = before;
+fn steps(first: State, input: &[u8], word: &mut [u8], numbers: &mut [i64]) -> State
+    ensures { λ r. ⌜ reader r (now (word .exit)) (now (numbers .exit)) ≡ steps (now (input .entry)) (reader first (now (word .entry)) (now (numbers .entry))) ⌝ }
+{
+    let mut s = first;
     let end = s.end;
     let mut i = s.at;
     while i < end {
@@ -232,14 +272,18 @@ fn steps(before: State, input: &[u8], word: &mut [u8], numbers: &mut [i64]) -> S
     s
 }
 
-fn fill(mut s: State, input: &mut [u8]) -> State {
+fn fill(mut s: State, input: &mut [u8]) -> State
+    ensures { λ r. ⌜ (r ≡ bytes 0 (r .end) s) × (r .end ≤ length (now (input .entry))) ⌝ }
+{
     s.end = io::read_full(STDIN_FILENO, input);
     s.at = 0;
     s
 }
 
 // After the last byte: the last line may lack its end.
-fn end_input(s: State, word: &mut [u8], numbers: &mut [i64]) -> State {
+fn end_input(s: State, word: &mut [u8], numbers: &mut [i64]) -> State
+    ensures { λ r. ⌜ reader r (now (word .exit)) (now (numbers .exit)) ≡ endInput (reader s (now (word .entry)) (now (numbers .entry))) ⌝ }
+{
     let last = step(s, b'\n', word, numbers);
     if last.found != NOTHING {
         return last;
@@ -248,8 +292,10 @@ fn end_input(s: State, word: &mut [u8], numbers: &mut [i64]) -> State {
 }
 
 // What is left of the bytes, and where it has no end of a line the next ones.
-fn read_some(before: State, input: &mut [u8], word: &mut [u8], numbers: &mut [i64]) -> State {
-    let s = steps(before, input, word, numbers);
+fn read_some(first: State, input: &mut [u8], word: &mut [u8], numbers: &mut [i64]) -> State
+    ensures { λ r. ⌜ ReadSome (now (input .entry)) (reader first (now (word .entry)) (now (numbers .entry))) (reader r (now (word .exit)) (now (numbers .exit))) ⌝ }
+{
+    let s = steps(first, input, word, numbers);
     if s.found != NOTHING {
         return s;
     }
@@ -262,7 +308,9 @@ fn read_some(before: State, input: &mut [u8], word: &mut [u8], numbers: &mut [i6
 
 // The line after s. A proved loop has to end, and nothing says that the input does: so it counts its
 // turns down from a number that no run uses up.
-pub fn next_line(s: State, input: &mut [u8], word: &mut [u8], numbers: &mut [i64]) -> State {
+pub fn next_line(s: State, input: &mut [u8], word: &mut [u8], numbers: &mut [i64]) -> State
+    ensures { λ r. ⌜ Reads (2 ^ 64 - 1) (now (input .entry)) (reader (nextLine s) (now (word .entry)) (now (numbers .entry))) (reader r (now (word .exit)) (now (numbers .exit))) ⌝ }
+{
     let mut next = line_after(s);
     let mut turns = u64::MAX;
     while 0 < turns {
@@ -278,6 +326,7 @@ pub fn next_line(s: State, input: &mut [u8], word: &mut [u8], numbers: &mut [i64
 // Copies what fits of word to the front of out, and answers how many bytes.
 pub fn put(word: &[u8], out: &mut [u8]) -> usize
     ensures { λ r. ⌜ Counts r (now (out .exit)) ⌝ }
+    ensures { λ r. ⌜ (r ≡ min (length (now (word .entry))) (length (now (out .entry)))) × (now (out .exit) ≡ putIn r (now (word .entry)) (now (out .entry))) ⌝ }
 {
     let mut i = 0;
     while i < word.len() {

@@ -1,13 +1,21 @@
 // What a run writes: how many cases of each kind agreed, and how it ended.
+ghost use mathlib.Core.Path.{_≡_};
+ghost use lib.ListN.{getD};
+ghost use Rattle.lines.specs.Line.{countedUp};
 use libc::STDOUT_FILENO;
 
-pub fn count_up(tallies: &mut [u64], kind: usize) {
+pub fn count_up(tallies: &mut [u64], kind: usize)
+    ensures { λ _. ⌜ now (tallies .exit) ≡ countedUp kind (now (tallies .entry)) ⌝ }
+{
     if kind < tallies.len() {
         tallies[kind] = crate::one_more(tallies[kind]);
     }
 }
 
-pub fn tally(tallies: &[u64], kind: usize) -> u64 {
+// 0 for a kind that has none.
+pub fn tally(tallies: &[u64], kind: usize) -> u64
+    ensures { λ r. ⌜ r ≡ getD (now (tallies .entry)) kind 0 ⌝ }
+{
     if kind < tallies.len() {
         tallies[kind]
     } else {
