@@ -1,12 +1,12 @@
 -- `lines::end_number` meets its contract. Assumes nothing.
-use mathlib.Core.Path.{_≡_}
+use mathlib.Core.Path.{sym, _∙_}
 use mir.Syntax.{w64}
 use mir.Val.{SFits}
 use borrow.Author.Tests.{le-ltb, lt-ltb}
 use borrow.Author.Needs.{needs}
 use Rattle.intops.proofs.Signed.{back}
-use Rattle.lines.specs.Line.{endNumber, valueOf}
-use Rattle.lines.specs.declared.Value.the-variants.{Is, TooLarge}
+use Rattle.lines.specs.Line.{endNumber}
+use Rattle.lines.proofs.Values.{none-is}
 use Rattle.lines.proofs.end_number.Statement.{statement}
 use Rattle.lines.proofs.end_number.Tie as tie
 
@@ -32,8 +32,7 @@ finds-requires-2 c κs = search needs
 returns-2 : tie.Need-returns-2
 unfolding endNumber
 returns-2 c =
-    let s = c .before .before .before .before .before .args .s in
-    let k : valueOf (s .«is_negative») (s .magnitude) ≡ TooLarge = cc in
+    let k = sym (c .before .before .before .value-of .ensures) ∙ none-is (c .before .before .before .value-of .result) (c .before .before .match .keys2) in
     rw (lt-ltb _ _ (c .before .before .before .before .if1 .left), k, c .finds2 .ensures)
 
 mul-v : tie.Need-mul-v
@@ -51,10 +50,9 @@ same-length c = search needs
 returns-3 : tie.Need-returns-3
 unfolding endNumber
 returns-3 c =
-    let s = c .before .before .before .before .before .args .s in
     let v = c .before .v .given .0 .0 in
     let f : SFits w64 v = search needs in
-    let k : valueOf (s .«is_negative») (s .magnitude) ≡ Is v = cc in
+    let k = sym (c .before .before .before .value-of .ensures) ∙ c .before .v .given .1 in
     rw (lt-ltb _ _ (c .before .before .before .before .if1 .left), k) (simp back)
 
 pub end-number-spec : {M : Type 1} → statement M

@@ -1,13 +1,10 @@
 -- `lines::push_digit` meets its contract. Assumes nothing.
 use mathlib.Core.Path.{_≡_, _∙_, sym}
 use mathlib.Core.Bool.{true, false}
-use Prim.Native.Nat.{_*_, _%_, _^_}
-use native.Mathlib.Omega.{arith}
-use lib.Dec.{leb}
-use borrow.Author.Tests.{le-leb, lt-leb, leb-true, not-true, not-false}
+use borrow.Author.Tests.{not-true, not-false}
 use borrow.Author.Needs.{needs}
-use Rattle.intops.proofs.Tests.{and-both}
-use Rattle.lines.specs.Line.{pushDigit, isDigit, digit}
+use Rattle.lines.specs.Line.{pushDigit, isDigit}
+use Rattle.lines.proofs.Values.{digit-is, tenfold-above, tenfold-within}
 use Rattle.lines.proofs.push_digit.Statement.{statement}
 use Rattle.lines.proofs.push_digit.Tie as tie
 
@@ -29,9 +26,8 @@ finds-requires-2 c κs = search needs
 returns-2 : tie.Need-returns-2
 unfolding pushDigit
 returns-2 c =
-    let s = c .before .before .before .before .args .s in
     let e : isDigit (c .before .before .before .before .args .b) ≡ true = sym (c .before .before .before .is-digit .ensures) ∙ not-false _ (c .before .before .if1 .left) in
-    rw (e, lt-leb (10 * s .magnitude) (2 ^ 63) (omega arith), c .finds2 .ensures)
+    rw (e, tenfold-above _ (c .before .if2 .taken), c .finds2 .ensures)
 
 mul-s : tie.Need-mul-s
 mul-s c = search needs
@@ -45,13 +41,9 @@ add-s c = search needs
 returns-3 : tie.Need-returns-3
 unfolding pushDigit
 returns-3 c =
-    let s = c .before .before .before .args .s in
     let b = c .before .before .before .args .b in
     let e : isDigit b ≡ true = sym (c .before .before .is-digit .ensures) ∙ not-false _ (c .before .if1 .left) in
-    let lo = leb-true 48 b (and-both (leb 48 b) (leb b 57) e .0) in
-    let hi = leb-true b 57 (and-both (leb 48 b) (leb b 57) e .1) in
-    let d : b % 48 ≡ digit b = omega arith in
-    rw (e, le-leb (10 * s .magnitude) (2 ^ 63) (omega arith), d)
+    rw (e, tenfold-within _ (c .if2 .left), digit-is b e)
 
 pub push-digit-spec : {M : Type 1} → statement M
 push-digit-spec =
