@@ -1,7 +1,7 @@
 -- Digits, and the number of a sign and a magnitude: when it fits, and when not. Assumes nothing.
 use mathlib.Core.Bool.{Bool, true, false, _&&_}
 use mathlib.Core.Path.{_≡_, refl, sym}
-use Prim.Native.Nat.{ℕ, zero, suc, _*_, _%_, _^_, _≤_, _<_}
+use Prim.Native.Nat.{ℕ, zero, suc, _+_, _*_, _%_, _^_, _≤_, _<_}
 use native.Mathlib.Omega.{arith}
 use lib.Dec.{leb, eqb}
 use lib.IntN.{pos, negℤ, _-ℤ_}
@@ -11,12 +11,13 @@ use mir.Val.{SFits, toZ, ofZ}
 use borrow.Author.Tests.{le-leb, lt-leb, leb-true, eqb-true, eqb-false}
 use Rattle.intops.proofs.Signed.{signed, back, ud-minus, zero-minus}
 use Rattle.intops.proofs.Tests.{and-both}
-use Rattle.lines.specs.Line.{isDigit, digit, valueOf}
+use Rattle.lines.specs.Line.{isDigit, digit, inDigits, goesTo, reading, refused, pushDigit, valueOf}
+use Rattle.lines.specs.declared.State.{State}
 use Rattle.lines.specs.declared.Value.{Value}
 use Rattle.lines.proofs.Value.{the-type}
 use Rattle.lines.specs.declared.Value.the-variants.{Is, TooLarge}
 
-pub digit-is : (b : ℕ) → isDigit b ≡ true → b % 48 ≡ digit b
+digit-is : (b : ℕ) → isDigit b ≡ true → b % 48 ≡ digit b
 digit-is b e =
     let t = and-both (leb 48 b) (leb b 57) e in
     let l = leb-true 48 b (t .0) in
@@ -24,11 +25,13 @@ digit-is b e =
     omega arith
 
 -- 922337203685477580 is a tenth of 2^63
-pub tenfold-above : (m : ℕ) → 922337203685477580 < m → leb (10 * m) (2 ^ 63) ≡ false
-tenfold-above m h = lt-leb (10 * m) (2 ^ 63) (omega arith)
+pub no-room : (b : ℕ) (s : State) → isDigit b ≡ true → 922337203685477580 < s .magnitude → refused s ≡ pushDigit b s
+unfolding pushDigit
+no-room b s e h = rw (e, lt-leb (10 * s .magnitude) (2 ^ 63) (omega arith))
 
-pub tenfold-within : (m : ℕ) → m ≤ 922337203685477580 → leb (10 * m) (2 ^ 63) ≡ true
-tenfold-within m h = le-leb (10 * m) (2 ^ 63) (omega arith)
+pub pushed : (b : ℕ) (s : State) → isDigit b ≡ true → s .magnitude ≤ 922337203685477580 → goesTo inDigits (reading (s .«is_negative») (10 * s .magnitude + b % 48) s) ≡ pushDigit b s
+unfolding pushDigit
+pushed b s e h = rw (e, le-leb (10 * s .magnitude) (2 ^ 63) (omega arith), digit-is b e)
 
 pub plus-fits : (m : ℕ) → m < 2 ^ 63 → valueOf false m ≡ Is (pos m)
 unfolding valueOf

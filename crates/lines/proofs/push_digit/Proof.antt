@@ -1,10 +1,10 @@
 -- `lines::push_digit` meets its contract. Assumes nothing.
 use mathlib.Core.Path.{_≡_, _∙_, sym}
-use mathlib.Core.Bool.{true, false}
+use mathlib.Core.Bool.{false}
 use borrow.Author.Tests.{not-true, not-false}
 use borrow.Author.Needs.{needs}
 use Rattle.lines.specs.Line.{pushDigit, isDigit}
-use Rattle.lines.proofs.Values.{digit-is, tenfold-above, tenfold-within}
+use Rattle.lines.proofs.Values.{no-room, pushed}
 use Rattle.lines.proofs.push_digit.Statement.{statement}
 use Rattle.lines.proofs.push_digit.Tie as tie
 
@@ -24,10 +24,7 @@ finds-requires-2 : tie.Need-finds-requires-2
 finds-requires-2 c κs = search needs
 
 returns-2 : tie.Need-returns-2
-unfolding pushDigit
-returns-2 c =
-    let e : isDigit (c .before .before .before .before .args .b) ≡ true = sym (c .before .before .before .is-digit .ensures) ∙ not-false _ (c .before .before .if1 .left) in
-    rw (e, tenfold-above _ (c .before .if2 .taken), c .finds2 .ensures)
+returns-2 c = rw (c .finds2 .ensures) (no-room (c .before .before .before .before .args .b) (c .before .before .before .before .args .s) (sym (c .before .before .before .is-digit .ensures) ∙ not-false _ (c .before .before .if1 .left)) (c .before .if2 .taken))
 
 mul-s : tie.Need-mul-s
 mul-s c = search needs
@@ -39,11 +36,7 @@ add-s : tie.Need-add-s
 add-s c = search needs
 
 returns-3 : tie.Need-returns-3
-unfolding pushDigit
-returns-3 c =
-    let b = c .before .before .before .args .b in
-    let e : isDigit b ≡ true = sym (c .before .before .is-digit .ensures) ∙ not-false _ (c .before .if1 .left) in
-    rw (e, tenfold-within _ (c .if2 .left), digit-is b e)
+returns-3 c = pushed (c .before .before .before .args .b) (c .before .before .before .args .s) (sym (c .before .before .is-digit .ensures) ∙ not-false _ (c .before .if1 .left)) (c .if2 .left)
 
 pub push-digit-spec : {M : Type 1} → statement M
 push-digit-spec =
