@@ -1,6 +1,12 @@
 // The kinds of cases: a new one has a number, a name of at most 16 letters and an arm here, and a
 // function in a crate of cases. There is room for 31 tallies.
+ghost use mathlib.Core.Path.{_≡_};
+ghost use Prim.Native.Nat.{_<_, min};
+ghost use lib.ListN.{length};
 ghost use Rattle.io.specs.Counts.{Counts};
+ghost use Rattle.cases.specs.Verdicts.{WhenTrue, WhenAgrees};
+ghost use Rattle.lines.specs.Line.{putIn};
+ghost use Rattle.replay.specs.Kinds.{name, Holds};
 use cases::Verdict;
 use lines::report;
 
@@ -27,6 +33,7 @@ const KINDS: usize = 8;
 // Puts the kind's name at the front of out, and answers its length.
 fn put_name(kind: usize, out: &mut [u8]) -> usize
     ensures { λ r. ⌜ Counts r (now (out .exit)) ⌝ }
+    ensures { λ r. ⌜ (r ≡ min (length (name kind)) (length (now (out .entry)))) × (now (out .exit) ≡ putIn r (name kind) (now (out .entry))) ⌝ }
 {
     match kind {
         PROJECT => lines::put(b"project", out),
@@ -41,7 +48,9 @@ fn put_name(kind: usize, out: &mut [u8]) -> usize
     }
 }
 
-pub fn judge(kind: usize, numbers: &[i64]) -> Verdict {
+pub fn judge(kind: usize, numbers: &[i64]) -> Verdict
+    ensures { λ r. ⌜ WhenAgrees r (Holds (now (numbers .entry)) kind) ⌝ }
+{
     match kind {
         PROJECT => leaf_cases::judge_project(numbers),
         SCALE => leaf_cases::judge_scale(numbers),
@@ -55,14 +64,18 @@ pub fn judge(kind: usize, numbers: &[i64]) -> Verdict {
     }
 }
 
-fn is_name(kind: usize, word: &[u8]) -> bool {
+fn is_name(kind: usize, word: &[u8]) -> bool
+    ensures { λ r. ⌜ WhenTrue r (now (word .entry) ≡ name kind) ⌝ }
+{
     let mut name = [0u8; 16];
     let n = put_name(kind, &mut name);
     cases::same_u8s(word, &name[..n])
 }
 
 // The kind that has this name, or NONE.
-pub fn kind_of(word: &[u8]) -> usize {
+pub fn kind_of(word: &[u8]) -> usize
+    ensures { λ r. ⌜ (0 < r → now (word .entry) ≡ name r) ⌝ }
+{
     let mut kind = KINDS;
     while NONE < kind {
         if is_name(kind, word) {

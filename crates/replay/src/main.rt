@@ -11,6 +11,12 @@
 //     frame HEADER REFUSAL RECORD (83 and 171 numbers: frame_cases)
 //
 // Ends at the first case that differs, or that cannot be read.
+ghost use mathlib.Core.Bool.{cond};
+ghost use mathlib.Core.Path.{_≡_};
+ghost use lib.Dec.{eqb};
+ghost use Rattle.lines.specs.Line.{countedUp};
+ghost use Rattle.replay.specs.Kinds.{Holds, Taken, running, ended};
+
 mod kinds;
 
 use cases::Verdict;
@@ -26,7 +32,9 @@ const DIFFERS: usize = 2;
 
 const NOT_A_CASE: usize = 3;
 
-fn judged(kind: usize, numbers: &[i64], tallies: &mut [u64]) -> usize {
+fn judged(kind: usize, numbers: &[i64], tallies: &mut [u64]) -> usize
+    ensures { λ r. ⌜ (r ≡ running → Holds (now (numbers .entry)) kind) × (now (tallies .exit) ≡ cond (eqb r running) (countedUp kind (now (tallies .entry))) (now (tallies .entry))) × (r ≡ ended → ⊥) ⌝ }
+{
     match kinds::judge(kind, numbers) {
         Verdict::Agrees => {
             report::count_up(tallies, kind);
@@ -37,7 +45,9 @@ fn judged(kind: usize, numbers: &[i64], tallies: &mut [u64]) -> usize {
     }
 }
 
-fn take_line(s: State, word: &[u8], numbers: &[i64], tallies: &mut [u64]) -> usize {
+fn take_line(s: State, word: &[u8], numbers: &[i64], tallies: &mut [u64]) -> usize
+    ensures { λ r. ⌜ Taken s (now (word .entry)) (now (numbers .entry)) (now (tallies .entry)) (now (tallies .exit)) r ⌝ }
+{
     let letters = s.letters;
     let n = s.count;
     if s.found == lines::ALL_READ {

@@ -1,4 +1,5 @@
--- `replay::kinds::kind_of` is safe and ends. The measure is the kind, which falls. Assumes nothing.
+-- `replay::kinds::kind_of` meets its contract. The measure is the kind, which falls. Assumes nothing.
+use native.Mathlib.Omega.{arith}
 use borrow.Author.Needs.{needs}
 use Rattle.replay.proofs.kinds.kind_of.Statement.{statement}
 use Rattle.replay.proofs.kinds.kind_of.Tie as tie
@@ -16,7 +17,7 @@ is-name-requires : tie.Need-is-name-requires Inv-loop μ-loop
 is-name-requires c κs = search needs
 
 returns : tie.Need-returns Inv-loop μ-loop
-returns c = search needs
+returns c = λ h. rw (c .if1 .taken) at (c .before .is-name .ensures)
 
 sub-kind : tie.Need-sub-kind Inv-loop μ-loop
 sub-kind c = search needs
@@ -28,7 +29,7 @@ loop-again : tie.Need-loop-again Inv-loop μ-loop
 loop-again c = search needs
 
 returns-2 : tie.Need-returns-2 Inv-loop μ-loop
-returns-2 c = search needs
+returns-2 c = λ h. absurd (omega arith)
 
 pub kind-of-spec : {M : Type 1} → statement M
 kind-of-spec =

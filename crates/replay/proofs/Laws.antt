@@ -1,0 +1,64 @@
+-- Laws of the kinds' words, and of what is made of a line. Assumes nothing.
+use mathlib.Core.Bool.{Bool, true, false, cond}
+use mathlib.Core.List.{List, []}
+use mathlib.Core.Path.{_≡_, _∙_, refl}
+use Prim.Native.Nat.{ℕ, zero, suc, _+_, _≤_, _<_, min}
+use native.Mathlib.Omega.{arith}
+use lib.Dec.{leb, ltb, eqb, leb→le}
+use lib.IntN.{ℤ}
+use lib.ListN.{length, take, drop, List·getD-eq-default}
+use lib.Seq.{take-at, take-all, length-take-le}
+use borrow.Author.Tests.{ltb-true, ltb-false, eq-eqb, ne-eqb}
+use Rattle.intops.proofs.Table.{at}
+use Rattle.lines.specs.declared.State.{State}
+use Rattle.lines.specs.Line.{allRead, putIn, countedUp}
+use Rattle.replay.specs.Kinds.{names, name, running, ended, Holds, Taken, project, scale, quantize, dequantize, hint, smooth, gap, frame}
+
+past : {a k : ℕ} → a ≤ k → (k ≡ a → ⊥) → a + 1 ≤ k
+past h n = omega arith
+
+-- what is no kind has no word
+pub no-name : (k : ℕ) → (k ≡ 1 → ⊥) → (k ≡ 2 → ⊥) → (k ≡ 3 → ⊥) → (k ≡ 4 → ⊥) → (k ≡ 5 → ⊥) → (k ≡ 6 → ⊥) → (k ≡ 7 → ⊥) → (k ≡ 8 → ⊥) → name k ≡ []
+unfolding names name
+no-name zero h1 h2 h3 h4 h5 h6 h7 h8 = refl
+no-name (suc k) h1 h2 h3 h4 h5 h6 h7 h8 = List·getD-eq-default names [] (past (past (past (past (past (past (past (past (omega arith) h1) h2) h3) h4) h5) h6) h7) h8)
+
+-- a word has at most 16 letters
+few-go : (k : ℕ) (t : Bool) → ltb k 9 ≡ t → length (name k) ≤ 16
+unfolding names name
+few-go k true e = leb→le (length (name k)) 16 (at [] (λ i w. leb (length w) 16) names tt k (ltb-true k 9 e))
+few-go k false e = rw (List·getD-eq-default names [] (ltb-false k 9 e)) (omega arith)
+
+pub few-letters : (k : ℕ) → length (name k) ≤ 16
+few-letters k = few-go k (ltb k 9) refl
+
+-- a word that a buffer has room for stands whole at its front
+pub front-is : {out : List ℕ} {r : ℕ} (word before : List ℕ) → r ≡ min (length word) (length before) → length word ≤ length before → out ≡ putIn r word before → take r out ≡ word
+front-is {out} {r} word before e h o =
+    let l : r ≡ length word = omega arith in
+    rw o (take-at (take r word) (drop r before) r (length-take-le r word (omega arith)) ∙ take-all r word (omega arith))
+
+-- a case that holds is of a kind
+pub some-kind : {n : List ℤ} {k : ℕ} → Holds n k → 0 < k
+some-kind (project h) = omega arith
+some-kind (scale h) = omega arith
+some-kind (quantize h) = omega arith
+some-kind (dequantize h) = omega arith
+some-kind (hint h) = omega arith
+some-kind (smooth h) = omega arith
+some-kind (gap h) = omega arith
+some-kind (frame h) = omega arith
+
+-- ---- what is made of a line
+
+-- the reader found no line, or none that can be a case
+pub not-taken : (s : State) (w : List ℕ) (n : List ℤ) (t : List ℕ) (r : ℕ) → (r ≡ running → ⊥) → (r ≡ ended → ⊥) → (s .found ≡ allRead → ⊥) → Taken s w n t t r
+not-taken s w n t r h i f = record { goesOn = λ e. absurd (h e); stops = λ e. refl; atEnd = λ e. absurd (i e); ends = λ e. absurd (f e) }
+
+pub judged-as : (s : State) (w : List ℕ) (n : List ℤ) (t after : List ℕ) (k r : ℕ) → (s .found ≡ allRead → ⊥) → (0 < k → take (s .letters) w ≡ name k) → (r ≡ running → Holds (take (s .count) n) k) × (after ≡ cond (eqb r running) (countedUp k t) t) × (r ≡ ended → ⊥) → Taken s w n t after r
+judged-as s w n t after k r f named j = record {
+  goesOn = λ e. record { kind = k; named = named (some-kind (j .0 e)); holds = j .0 e; counted = j .1 ∙ rw (eq-eqb r running e) };
+  stops = λ e. j .1 ∙ rw (ne-eqb r running e);
+  atEnd = λ e. absurd (j .2 e);
+  ends = λ e. absurd (f e);
+}

@@ -1,0 +1,40 @@
+-- `replay::kinds::is_name` meets its contract. Assumes nothing.
+use mathlib.Core.Path.{_∙_}
+use borrow.Author.Needs.{needs}
+use Rattle.cases.proofs.Verdicts.{when-true}
+use Rattle.replay.specs.Kinds.{name}
+use Rattle.replay.proofs.Laws.{few-letters, front-is}
+use Rattle.replay.proofs.kinds.is_name.Statement.{statement}
+use Rattle.replay.proofs.kinds.is_name.Tie as tie
+
+slice-aggregate-put-name : tie.Need-slice-aggregate-put-name
+slice-aggregate-put-name c = search needs
+
+put-name-requires : tie.Need-put-name-requires
+put-name-requires c κs = search needs
+
+array-share-prefix-name : tie.Need-array-share-prefix-name
+array-share-prefix-name c = search needs
+
+slice-aggregate-same-u8s : tie.Need-slice-aggregate-same-u8s
+slice-aggregate-same-u8s c = search needs
+
+same-u8s-requires : tie.Need-same-u8s-requires
+same-u8s-requires c κs = search needs
+
+returns : tie.Need-returns
+returns c =
+    let a = c .before .before .before .before .before .before .args in
+    let p = c .before .before .before .put-name .ensures .1 in
+    when-true (c .same-u8s .result) (λ e. e ∙ front-is (name (a .kind)) _ (p .0) (few-letters (a .kind)) (p .1)) (c .same-u8s .ensures)
+
+pub is-name-spec : {M : Type 1} → statement M
+is-name-spec =
+    tie.close
+    (tie.spec
+    slice-aggregate-put-name
+    put-name-requires
+    array-share-prefix-name
+    slice-aggregate-same-u8s
+    same-u8s-requires
+    returns)

@@ -1,0 +1,60 @@
+-- The kinds of cases, and what replay makes of a line. What is read and what is written, no definition can say. Assumes nothing.
+use mathlib.Core.List.{List, [], _∷_}
+use mathlib.Core.Path.{_≡_}
+use Prim.Native.Nat.{ℕ}
+use lib.IntN.{ℤ}
+use lib.ListN.{getD, take}
+use Rattle.lines.specs.declared.State.{State}
+use Rattle.lines.specs.Line.{allRead, countedUp}
+use Rattle.leaf_cases.specs.Agrees.{ProjectAgrees, ScaleAgrees, QuantizeAgrees, DequantizeAgrees, HintAgrees, SmoothAgrees, GapAgrees}
+use Rattle.frame_cases.specs.FrameCase.{FrameAgrees}
+
+-- the words of the kinds 1 to 8, in ASCII: project, scale, quantize, dequantize, hint, smooth, gap, frame
+unfoldable pub names : List (List ℕ)
+names =
+    []
+    ∷ (112 ∷ 114 ∷ 111 ∷ 106 ∷ 101 ∷ 99 ∷ 116 ∷ [])
+    ∷ (115 ∷ 99 ∷ 97 ∷ 108 ∷ 101 ∷ [])
+    ∷ (113 ∷ 117 ∷ 97 ∷ 110 ∷ 116 ∷ 105 ∷ 122 ∷ 101 ∷ [])
+    ∷ (100 ∷ 101 ∷ 113 ∷ 117 ∷ 97 ∷ 110 ∷ 116 ∷ 105 ∷ 122 ∷ 101 ∷ [])
+    ∷ (104 ∷ 105 ∷ 110 ∷ 116 ∷ [])
+    ∷ (115 ∷ 109 ∷ 111 ∷ 111 ∷ 116 ∷ 104 ∷ [])
+    ∷ (103 ∷ 97 ∷ 112 ∷ [])
+    ∷ (102 ∷ 114 ∷ 97 ∷ 109 ∷ 101 ∷ [])
+    ∷ []
+
+-- the word of kind k; what is no kind has none
+unfoldable pub name : ℕ → List ℕ
+name k = getD names k []
+
+-- what a line of kind k with the numbers n states, is what the definition gives
+pub data Holds (n : List ℤ) : ℕ → Type 0 where
+  project : ProjectAgrees n → Holds n 1
+  scale : ScaleAgrees n → Holds n 2
+  quantize : QuantizeAgrees n → Holds n 3
+  dequantize : DequantizeAgrees n → Holds n 4
+  hint : HintAgrees n → Holds n 5
+  smooth : SmoothAgrees n → Holds n 6
+  gap : GapAgrees n → Holds n 7
+  frame : FrameAgrees n → Holds n 8
+
+-- how a line leaves the run: it goes on, or it is at the input's end; the other answers are a case that differs, and what is no case
+abbrev pub running : ℕ
+running = 0
+
+abbrev pub ended : ℕ
+ended = 1
+
+-- the run goes on past a line of word w and numbers n: it is of a kind, holds, and is counted
+pub record GoesOn (w : List ℕ) (n : List ℤ) (before after : List ℕ) : Type 0 where
+  pub kind : ℕ
+  pub named : w ≡ name kind
+  pub holds : Holds n kind
+  pub counted : after ≡ countedUp kind before
+
+-- what is made of what the reader found: r says how the run goes on
+pub record Taken (s : State) (w : List ℕ) (n : List ℤ) (before after : List ℕ) (r : ℕ) : Type 0 where
+  pub goesOn : r ≡ running → GoesOn (take (s .letters) w) (take (s .count) n) before after
+  pub stops : (r ≡ running → ⊥) → after ≡ before
+  pub atEnd : r ≡ ended → s .found ≡ allRead
+  pub ends : s .found ≡ allRead → r ≡ ended
