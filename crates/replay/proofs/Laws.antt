@@ -2,17 +2,18 @@
 use mathlib.Core.Bool.{Bool, true, false, cond}
 use mathlib.Core.List.{List, []}
 use mathlib.Core.Path.{_≡_, _∙_, refl}
-use Prim.Native.Nat.{ℕ, zero, suc, _+_, _≤_, _<_, min}
+use Prim.Native.Nat.{ℕ, zero, suc, _+_, _%_, _^_, _≤_, _<_, min}
+use native.Mathlib.Numerals.{add-one}
 use native.Mathlib.Omega.{arith}
 use lib.Dec.{leb, ltb, eqb, leb→le}
 use lib.IntN.{ℤ}
-use lib.ListN.{length, take, drop, List·getD-eq-default}
+use lib.ListN.{length, getD, take, drop, List·getD-eq-default}
 use lib.Seq.{take-at, take-all, length-take-le}
 use borrow.Author.Tests.{ltb-true, ltb-false, eq-eqb, ne-eqb}
 use Rattle.intops.proofs.Table.{at}
 use Rattle.lines.specs.declared.State.{State}
 use Rattle.lines.specs.Line.{allRead, putIn, countedUp}
-use Rattle.replay.specs.Kinds.{names, name, running, ended, Holds, Taken, project, scale, quantize, dequantize, hint, smooth, gap, frame}
+use Rattle.replay.specs.Kinds.{names, name, agreed, running, ended, Holds, Taken, project, scale, quantize, dequantize, hint, smooth, gap, frame}
 
 past : {a k : ℕ} → a ≤ k → (k ≡ a → ⊥) → a + 1 ≤ k
 past h n = omega arith
@@ -37,6 +38,11 @@ pub front-is : {out : List ℕ} {r : ℕ} (word before : List ℕ) → r ≡ min
 front-is {out} {r} word before e h o =
     let l : r ≡ length word = omega arith in
     rw o (take-at (take r word) (drop r before) r (length-take-le r word (omega arith)) ∙ take-all r word (omega arith))
+
+-- one kind more in the sum of the tallies
+pub one-more-kind : {sum tally : ℕ} (t : List ℕ) (k : ℕ) → sum ≡ agreed k t → tally ≡ getD t (k + 1) 0 → (sum + tally) % 2 ^ 64 ≡ agreed (k + 1) t
+unfolding agreed
+one-more-kind t k e f = rw (f, e, add-one)
 
 -- a case that holds is of a kind
 pub some-kind : {n : List ℤ} {k : ℕ} → Holds n k → 0 < k

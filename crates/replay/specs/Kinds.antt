@@ -1,7 +1,7 @@
 -- The kinds of cases, and what replay makes of a line. What is read and what is written, no definition can say. Assumes nothing.
 use mathlib.Core.List.{List, [], _∷_}
 use mathlib.Core.Path.{_≡_}
-use Prim.Native.Nat.{ℕ}
+use Prim.Native.Nat.{ℕ, zero, suc, _+_, _%_, _^_}
 use lib.IntN.{ℤ}
 use lib.ListN.{getD, take}
 use Rattle.lines.specs.declared.State.{State}
@@ -37,6 +37,11 @@ pub data Holds (n : List ℤ) : ℕ → Type 0 where
   smooth : SmoothAgrees n → Holds n 6
   gap : GapAgrees n → Holds n 7
   frame : FrameAgrees n → Holds n 8
+
+-- the sum of the tallies of kinds 1 to k, in 64 bits
+unfoldable pub agreed : ℕ → List ℕ → ℕ
+agreed zero t = 0
+agreed (suc k) t = (agreed k t + getD t (suc k) 0) % 2 ^ 64
 
 -- how a line leaves the run: it goes on, or it is at the input's end; the other answers are a case that differs, and what is no case
 abbrev pub running : ℕ

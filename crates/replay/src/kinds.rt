@@ -6,7 +6,7 @@ ghost use lib.ListN.{length};
 ghost use Rattle.io.specs.Counts.{Counts};
 ghost use Rattle.cases.specs.Verdicts.{WhenTrue, WhenAgrees};
 ghost use Rattle.lines.specs.Line.{putIn};
-ghost use Rattle.replay.specs.Kinds.{name, Holds};
+ghost use Rattle.replay.specs.Kinds.{name, Holds, agreed};
 use cases::Verdict;
 use lines::report;
 
@@ -93,7 +93,9 @@ fn print_kind(kind: usize, agreed: u64) {
 }
 
 // Prints each kind's tally, and answers their sum.
-pub fn print_kinds(tallies: &[u64]) -> u64 {
+pub fn print_kinds(tallies: &[u64]) -> u64
+    ensures { λ r. ⌜ r ≡ agreed 8 (now (tallies .entry)) ⌝ }
+{
     let mut sum: u64 = 0;
     let mut kind = NONE;
     while kind < KINDS {
