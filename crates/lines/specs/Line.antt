@@ -105,9 +105,11 @@ oneMore n = min (n + 1) (2 ^ 64 - 1)
 abbrev pub before : ℕ → ℕ → ℕ → State
 before l a e = fields nothing l 0 0 atStart false 0 a e
 
+-- the line is passed over, and the next one starts
 abbrev pub nextLine : State → State
 nextLine s = before (oneMore (s .line)) (s .at) (s .end)
 
+-- what was read is no line
 abbrev pub refused : State → State
 refused s = finds notALine s
 
@@ -120,17 +122,19 @@ pushLetter b s w =
     (goesTo inWord (holding (s .letters + 1) (s .count) s), set w (s .letters) b)
     (refused s, w)
 
+-- the first byte of a line: its end, the mark of a comment, or a letter
 unfoldable pub startStep : ℕ → State → List ℕ → State × List ℕ
 startStep b s w =
     cond (eqb b newline) (nextLine s, w)
     (cond (eqb b hash) (goesTo inComment s, w) (cond (isLetter b) (pushLetter b s w) (refused s, w)))
 
+-- the word goes on, or a space ends it
 unfoldable pub wordStep : ℕ → State → List ℕ → State × List ℕ
 wordStep b s w = cond (isLetter b) (pushLetter b s w) (cond (eqb b space) (goesTo atNumber s, w) (refused s, w))
 
 -- ---- a number
 
--- one more digit; where ten times the magnitude is above 2^63, no number has it
+-- one more digit; a magnitude whose tenfold is above 2^63 takes none, as no number of 64 bits would have it
 unfoldable pub pushDigit : ℕ → State → State
 pushDigit b s =
     cond (isDigit b && leb (10 * s .magnitude) (2 ^ 63))
@@ -149,11 +153,12 @@ fitting z = cond (leZ (negsuc (2 ^ 63 - 1)) z && leZ z (pos (2 ^ 63 - 1))) (Is z
 unfoldable pub valueOf : Bool → ℕ → Value
 valueOf neg m = fitting (cond neg (negℤ (pos m)) (pos m))
 
+-- the number goes behind those that are there; one that does not fit is no line's
 abbrev pub store : Value → State → List ℤ → State × List ℤ
 store (Is v) s n = (goesTo atNumber (reading false 0 (holding (s .letters) (s .count + 1) s)), set n (s .count) v)
 store TooLarge s n = (refused s, n)
 
--- the number that was read goes behind those that are there, if it fits and the buffer has room
+-- the number that was read is stored, if the buffer has room
 unfoldable pub endNumber : State → List ℤ → State × List ℤ
 endNumber s n = cond (ltb (s .count) (length n)) (store (valueOf (s .«is_negative») (s .magnitude)) s n) (refused s, n)
 
@@ -161,16 +166,18 @@ endNumber s n = cond (ltb (s .count) (length n)) (store (valueOf (s .«is_negati
 abbrev pub endLine : State → State
 endLine s = cond (eqb (s .found) nothing) (finds line s) s
 
+-- a space or the end of the line ends the number; else it goes on
 unfoldable pub digitsStep : ℕ → State → List ℤ → State × List ℤ
 digitsStep b s n =
     cond (eqb b space) (endNumber s n)
     (cond (eqb b newline) (endLine (endNumber s n .0), endNumber s n .1) (pushDigit b s, n))
 
--- ---- the reader
+-- ---- a comment, which ends with its line
 
--- a comment ends with its line
 unfoldable pub commentStep : ℕ → State → State
 commentStep b s = cond (eqb b newline) (nextLine s) s
+
+-- ---- the reader
 
 -- the reader between two bytes: the state, and the buffers of the word and of the numbers
 pub record Reader : Type 0 where
@@ -181,6 +188,7 @@ pub record Reader : Type 0 where
 abbrev pub reader : State → List ℕ → List ℤ → Reader
 reader s w n = record { state = s; word = w; numbers = n }
 
+-- the reader with another state and word, another state and numbers, another state
 abbrev pub withWord : Reader → State × List ℕ → Reader
 withWord r p = reader (p .0) (p .1) (r .numbers)
 
@@ -227,11 +235,12 @@ given e r = cond (eqb e 0) (endInput (withState r (bytes 0 e (r .state)))) (with
 
 -- q is what the bytes that are left make of r; where they end no line, the input is asked for more
 pub record ReadSome (input : List ℕ) (r q : Reader) : Type 0 where
+  -- how many bytes it gives
   pub more : ℕ
   pub fits : more ≤ length input
   pub is : q ≡ unlessFound (given more) (steps input r)
 
--- q is found after r in at most n turns, each with the bytes that the one before it was given
+-- from r on, in at most n turns, the reader comes to q: each turn has the bytes that the one before it asked for, and the last has found something
 pub data Reads : ℕ → List ℕ → Reader → Reader → Type 0 where
   never : {input : List ℕ} {r : Reader} → Reads 0 input r r
   found : {n : ℕ} {input : List ℕ} {r q : Reader} → ReadSome input r q → (q .state .found ≡ nothing → ⊥) → Reads (suc n) input r q
