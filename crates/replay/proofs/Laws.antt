@@ -12,8 +12,8 @@ use lib.Seq.{take-at, take-all, length-take-le}
 use borrow.Author.Tests.{ltb-true, ltb-false, eq-eqb, ne-eqb}
 use Rattle.intops.proofs.Table.{at}
 use Rattle.lines.specs.declared.State.{State}
-use Rattle.lines.specs.Line.{allRead, putIn, countedUp}
-use Rattle.replay.specs.Kinds.{names, name, agreed, running, ended, Holds, Taken, project, scale, quantize, dequantize, hint, smooth, gap, frame}
+use Rattle.lines.specs.Line.{line, allRead, putIn, countedUp}
+use Rattle.replay.specs.Kinds.{names, name, agreed, running, ended, notACase, Holds, Taken, project, scale, quantize, dequantize, hint, smooth, gap, frame}
 
 past : {a k : ℕ} → a ≤ k → (k ≡ a → ⊥) → a + 1 ≤ k
 past h n = omega arith
@@ -58,13 +58,14 @@ some-kind (frame h) = omega arith
 -- ---- what is made of a line
 
 -- the reader found no line, or none that can be a case
-pub not-taken : (s : State) (w : List ℕ) (n : List ℤ) (t : List ℕ) (r : ℕ) → (r ≡ running → ⊥) → (r ≡ ended → ⊥) → (s .found ≡ allRead → ⊥) → Taken s w n t t r
-not-taken s w n t r h i f = record { goesOn = λ e. absurd (h e); stops = λ e. refl; atEnd = λ e. absurd (i e); ends = λ e. absurd (f e) }
+pub not-taken : (s : State) (w : List ℕ) (n : List ℤ) (t : List ℕ) → (s .found ≡ allRead → ⊥) → Taken s w n t t notACase
+not-taken s w n t f = record { goesOn = λ e. absurd (omega arith); stops = λ e. refl; atEnd = λ e. absurd (omega arith); ends = λ e. absurd (f e); noLine = λ a b. refl }
 
-pub judged-as : (s : State) (w : List ℕ) (n : List ℤ) (t after : List ℕ) (k r : ℕ) → (s .found ≡ allRead → ⊥) → (0 < k → take (s .letters) w ≡ name k) → (r ≡ running → Holds (take (s .count) n) k) × (after ≡ cond (eqb r running) (countedUp k t) t) × (r ≡ ended → ⊥) → Taken s w n t after r
+pub judged-as : (s : State) (w : List ℕ) (n : List ℤ) (t after : List ℕ) (k r : ℕ) → s .found ≡ line → (0 < k → take (s .letters) w ≡ name k) → (r ≡ running → Holds (take (s .count) n) k) × (after ≡ cond (eqb r running) (countedUp k t) t) × (r ≡ ended → ⊥) → Taken s w n t after r
 judged-as s w n t after k r f named j = record {
   goesOn = λ e. record { kind = k; named = named (some-kind (j .0 e)); holds = j .0 e; counted = j .1 ∙ rw (eq-eqb r running e) };
   stops = λ e. j .1 ∙ rw (ne-eqb r running e);
   atEnd = λ e. absurd (j .2 e);
-  ends = λ e. absurd (f e);
+  ends = λ e. absurd (omega arith);
+  noLine = λ a b. absurd (a f);
 }

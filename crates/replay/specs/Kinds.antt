@@ -5,7 +5,7 @@ use Prim.Native.Nat.{ℕ, zero, suc, _+_, _%_, _^_}
 use lib.IntN.{ℤ}
 use lib.ListN.{getD, take}
 use Rattle.lines.specs.declared.State.{State}
-use Rattle.lines.specs.Line.{allRead, countedUp}
+use Rattle.lines.specs.Line.{line, allRead, countedUp}
 use Rattle.leaf_cases.specs.Agrees.{ProjectAgrees, ScaleAgrees, QuantizeAgrees, DequantizeAgrees, HintAgrees, SmoothAgrees, GapAgrees}
 use Rattle.frame_cases.specs.FrameCase.{FrameAgrees}
 
@@ -43,12 +43,15 @@ unfoldable pub agreed : ℕ → List ℕ → ℕ
 agreed zero t = 0
 agreed (suc k) t = (agreed k t + getD t (suc k) 0) % 2 ^ 64
 
--- how a line leaves the run: it goes on, or it is at the input's end; the other answers are a case that differs, and what is no case
+-- how a line leaves the run: it goes on, the input has ended, or what was read is no case; a case that differs is 2
 abbrev pub running : ℕ
 running = 0
 
 abbrev pub ended : ℕ
 ended = 1
+
+abbrev pub notACase : ℕ
+notACase = 3
 
 -- the run goes on past a line of word w and numbers n: it is of a kind, holds, and is counted
 pub record GoesOn (w : List ℕ) (n : List ℤ) (before after : List ℕ) : Type 0 where
@@ -63,3 +66,4 @@ pub record Taken (s : State) (w : List ℕ) (n : List ℤ) (before after : List 
   pub stops : (r ≡ running → ⊥) → after ≡ before
   pub atEnd : r ≡ ended → s .found ≡ allRead
   pub ends : s .found ≡ allRead → r ≡ ended
+  pub noLine : (s .found ≡ line → ⊥) → (s .found ≡ allRead → ⊥) → r ≡ notACase

@@ -8,16 +8,16 @@ use Rattle.replay.proofs.take_line.Statement.{statement}
 use Rattle.replay.proofs.take_line.Tie as tie
 
 returns : tie.Need-returns
-returns c = record { goesOn = λ e. absurd (omega arith); stops = λ e. refl; atEnd = λ e. c .if1 .taken; ends = λ e. refl }
+returns c = record { goesOn = λ e. absurd (omega arith); stops = λ e. refl; atEnd = λ e. c .if1 .taken; ends = λ e. refl; noLine = λ a b. absurd (b (c .if1 .taken)) }
 
 returns-2 : tie.Need-returns-2
-returns-2 c = not-taken (c .before .before .before .before .before .before .args .s) (c .before .before .before .before .before .before .args .word .now) (c .before .before .before .before .before .before .args .numbers .now) (c .before .before .before .before .before .before .args .tallies .now) 3 (λ e. omega arith) (λ e. omega arith) (c .before .before .if1 .left)
+returns-2 c = not-taken (c .before .before .before .before .before .before .args .s) (c .before .before .before .before .before .before .args .word .now) (c .before .before .before .before .before .before .args .numbers .now) (c .before .before .before .before .before .before .args .tallies .now) (c .before .before .if1 .left)
 
 returns-3 : tie.Need-returns-3
-returns-3 c = not-taken (c .before .before .before .before .before .before .before .args .s) (c .before .before .before .before .before .before .before .args .word .now) (c .before .before .before .before .before .before .before .args .numbers .now) (c .before .before .before .before .before .before .before .args .tallies .now) 3 (λ e. omega arith) (λ e. omega arith) (c .before .before .before .if1 .left)
+returns-3 c = not-taken (c .before .before .before .before .before .before .before .args .s) (c .before .before .before .before .before .before .before .args .word .now) (c .before .before .before .before .before .before .before .args .numbers .now) (c .before .before .before .before .before .before .before .args .tallies .now) (c .before .before .before .if1 .left)
 
 returns-4 : tie.Need-returns-4
-returns-4 c = not-taken (c .before .before .before .before .before .before .before .before .args .s) (c .before .before .before .before .before .before .before .before .args .word .now) (c .before .before .before .before .before .before .before .before .args .numbers .now) (c .before .before .before .before .before .before .before .before .args .tallies .now) 3 (λ e. omega arith) (λ e. omega arith) (c .before .before .before .before .if1 .left)
+returns-4 c = not-taken (c .before .before .before .before .before .before .before .before .args .s) (c .before .before .before .before .before .before .before .before .args .word .now) (c .before .before .before .before .before .before .before .before .args .numbers .now) (c .before .before .before .before .before .before .before .before .args .tallies .now) (c .before .before .before .before .if1 .left)
 
 sub-kind-of : tie.Need-sub-kind-of
 sub-kind-of c = search needs
@@ -47,7 +47,7 @@ same-length : tie.Need-same-length
 same-length c = search needs
 
 returns-5 : tie.Need-returns-5
-returns-5 c = judged-as (c .before .before .before .before .before .before .before .before .before .before .before .before .before .before .before .args .s) (c .before .before .before .before .before .before .before .before .before .before .before .before .before .before .before .args .word .now) (c .before .before .before .before .before .before .before .before .before .before .before .before .before .before .before .args .numbers .now) (c .before .before .before .before .before .before .before .before .before .before .before .before .before .before .before .args .tallies .now) _ (c .before .before .before .before .before .kind-of .result) (c .before .before .judged .result) (c .before .before .before .before .before .before .before .before .before .before .before .if1 .left) (simp sub-zero at (c .before .before .before .before .before .kind-of .ensures)) (simp sub-zero at (c .before .before .judged .ensures))
+returns-5 c = judged-as (c .before .before .before .before .before .before .before .before .before .before .before .before .before .before .before .args .s) (c .before .before .before .before .before .before .before .before .before .before .before .before .before .before .before .args .word .now) (c .before .before .before .before .before .before .before .before .before .before .before .before .before .before .before .args .numbers .now) (c .before .before .before .before .before .before .before .before .before .before .before .before .before .before .before .args .tallies .now) _ (c .before .before .before .before .before .kind-of .result) (c .before .before .judged .result) (c .before .before .before .before .before .before .before .before .before .if2 .left) (simp sub-zero at (c .before .before .before .before .before .kind-of .ensures)) (simp sub-zero at (c .before .before .judged .ensures))
 
 pub take-line-spec : {M : Type 1} → statement M
 take-line-spec =
