@@ -7,7 +7,7 @@ use borrow.Author.Tests.{not-false}
 use Rattle.intops.proofs.Signed.{signed}
 use Rattle.intops.specs.Choice.{pickZ, clipZ}
 use Rattle.cases.specs.Numbers.{Inside}
-use Rattle.cases.specs.Verdicts.{WhenTrue, WhenAgrees}
+use Rattle.cases.specs.Verdicts.{WhenTrue, Decides, WhenAgrees}
 use Rattle.cases.specs.declared.Verdict.{Verdict}
 use Rattle.cases.specs.declared.Verdict.the-variants.{Agrees, Differs, NotACase}
 
@@ -21,6 +21,11 @@ when-agrees NotACase f h = tt
 pub when-true : (b : Bool) {p q : Type 0} → (p → q) → WhenTrue b p → WhenTrue b q
 when-true true f h = f h
 when-true false f h = tt
+
+-- a test that decides p decides what is equivalent to it
+pub decides : (b : Bool) {p q : Type 0} → (p → q) → (q → p) → Decides b p → Decides b q
+decides true f g h = f h
+decides false f g h = λ x. h (g x)
 
 -- past a test whose negation was false
 pub passed : (b : Bool) {p : Type 0} → not b ≡ false → WhenTrue b p → p

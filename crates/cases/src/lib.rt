@@ -5,7 +5,7 @@ ghost use Prim.Native.Nat.{_≤_};
 ghost use lib.IntN.{pos, negsuc, natAbs};
 ghost use lib.ListN.{length};
 ghost use Rattle.cases.specs.Numbers.{Inside, Is32, AllInside, isOn};
-ghost use Rattle.cases.specs.Verdicts.{WhenTrue, WhenAgrees};
+ghost use Rattle.cases.specs.Verdicts.{WhenTrue, Decides, WhenAgrees};
 
 pub enum Verdict {
     Agrees,
@@ -126,7 +126,7 @@ pub fn of_i32(v: i32) -> i64
 }
 
 pub fn same_u8s(a: &[u8], b: &[u8]) -> bool
-    ensures { λ r. ⌜ WhenTrue r (now (a .entry) ≡ now (b .entry)) ⌝ }
+    ensures { λ r. ⌜ Decides r (now (a .entry) ≡ now (b .entry)) ⌝ }
 {
     if a.len() != b.len() {
         return false;

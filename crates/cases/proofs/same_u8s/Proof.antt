@@ -1,8 +1,8 @@
 -- `cases::same_u8s` meets its contract. Assumes nothing.
-use mathlib.Core.Path.{_≡_}
+use mathlib.Core.Path.{_≡_, ap}
 use Prim.Native.Nat.{ℕ, _-_, _<_}
 use native.Mathlib.Omega.{arith}
-use lib.ListN.{getD}
+use lib.ListN.{length, getD}
 use lib.Seq.{ext-getD}
 use borrow.Author.Count.{below-more}
 use borrow.Author.Needs.{needs}
@@ -16,7 +16,7 @@ abbrev μ-loop : tie.MeasureT-loop
 μ-loop a b i₀ i-end i = i-end - i
 
 returns : tie.Need-returns Inv-loop μ-loop
-returns c = search needs
+returns c = λ e. c .if1 .taken (ap length e)
 
 loop-holds : tie.Need-loop-holds Inv-loop μ-loop
 loop-holds c = λ k h. absurd (omega arith)
@@ -28,7 +28,7 @@ shared-slice-read-if2-2 : tie.Need-shared-slice-read-if2-2 Inv-loop μ-loop
 shared-slice-read-if2-2 c = search needs
 
 returns-2 : tie.Need-returns-2 Inv-loop μ-loop
-returns-2 c = search needs
+returns-2 c = λ e. c .if2 .taken cc
 
 add-i : tie.Need-add-i Inv-loop μ-loop
 add-i c = search needs
