@@ -1,4 +1,8 @@
 // What the lines have said so far.
+ghost use mathlib.Core.Bool.{cond, _&&_};
+ghost use mathlib.Core.Path.{_≡_};
+ghost use Rattle.cases.specs.Verdicts.{WhenTrue};
+ghost use Rattle.replay_loads.specs.Calls.{allRead, notALine, ended, checked, passed, isFree, MayCheck};
 use crate::lists;
 
 // How the run has ended, if it has.
@@ -37,7 +41,9 @@ pub fn start() -> Book {
     }
 }
 
-pub fn ended(mut b: Book, why: usize) -> Book {
+pub fn ended(mut b: Book, why: usize) -> Book
+    ensures { λ r. ⌜ r ≡ ended why b ⌝ }
+{
     b.ended = why;
     b
 }
@@ -73,7 +79,9 @@ pub fn setup(mut b: Book, n: &[i64], setup: &mut [i64]) -> Book {
     b
 }
 
-pub fn set(b: Book, is_set: bool) -> Book {
+pub fn set(b: Book, is_set: bool) -> Book
+    ensures { λ r. ⌜ r ≡ passed (isFree b && «is_set») b ⌝ }
+{
     if b.call != 0 {
         return ended(b, NOT_A_LINE);
     }
@@ -114,20 +122,26 @@ pub fn changed(mut b: Book, n: &[i64], is_set: bool) -> Book {
 }
 
 // Is there a call, a setup, and is the number of changed elements that of the line?
-pub fn may_check(b: Book, n: &[i64]) -> bool {
+pub fn may_check(b: Book, n: &[i64]) -> bool
+    ensures { λ r. ⌜ WhenTrue r (MayCheck b (now (n .entry))) ⌝ }
+{
     if n.len() != 1 {
         return false;
     }
     (b.call != 0) & (b.setup != 0) & (b.changed == cases::to_usize(n[0]))
 }
 
-pub fn checked(mut b: Book) -> Book {
+pub fn checked(mut b: Book) -> Book
+    ensures { λ r. ⌜ r ≡ checked b ⌝ }
+{
     b.call = 0;
     b
 }
 
 // The last call has its check.
-pub fn all_read(b: Book) -> Book {
+pub fn all_read(b: Book) -> Book
+    ensures { λ r. ⌜ r ≡ ended (cond (isFree b) allRead notALine) b ⌝ }
+{
     if b.call != 0 {
         return ended(b, NOT_A_LINE);
     }

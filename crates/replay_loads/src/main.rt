@@ -11,6 +11,10 @@
 //
 // Lists 0 to 6 are the store's seven, 7 the planes. Ends at the first load that differs, or at a line
 // that cannot stand where it is.
+ghost use mathlib.Core.Path.{_≡_};
+ghost use Rattle.replay_loads.specs.Words.{Numbered};
+ghost use Rattle.replay_loads.specs.Calls.{kindOf, left, tallied, Checked, Acted, Taken};
+
 mod book;
 mod lists;
 
@@ -37,7 +41,9 @@ const LOAD: usize = 0;
 
 const REFUSED: usize = 1;
 
-fn word_of(word: &[u8]) -> usize {
+fn word_of(word: &[u8]) -> usize
+    ensures { λ r. ⌜ Numbered (now (word .entry)) r ⌝ }
+{
     if cases::same_u8s(word, b"case") {
         return CASE;
     }
@@ -79,14 +85,18 @@ fn change(b: Book, n: &[i64], want: &mut [i64]) -> Book {
 }
 
 // The answer is the last number of a call.
-fn kind_of(call: &[i64]) -> usize {
+fn kind_of(call: &[i64]) -> usize
+    ensures { λ r. ⌜ r ≡ kindOf (now (call .entry)) ⌝ }
+{
     if call.len() <= 7 {
         return LOAD;
     }
     if call[7] == 0 { LOAD } else { REFUSED }
 }
 
-fn judged(b: Book, verdict: Verdict, kind: usize, tallies: &mut [u64]) -> Book {
+fn judged(b: Book, verdict: Verdict, kind: usize, tallies: &mut [u64]) -> Book
+    ensures { λ r. ⌜ (r ≡ left verdict b) × (now (tallies .exit) ≡ tallied verdict kind (now (tallies .entry))) ⌝ }
+{
     match verdict {
         Verdict::Agrees => {
             report::count_up(tallies, kind);
@@ -106,7 +116,9 @@ fn check(
     tallies: &mut [u64],
     cells: &mut [i64],
     want: &[i64],
-) -> Book {
+) -> Book
+    ensures { λ r. ⌜ Checked b (now (n .entry)) (now (setup .entry)) (now (call .entry)) (now (cells .entry)) (now (want .entry)) (now (tallies .entry)) (now (tallies .exit)) r ⌝ }
+{
     let lengths = b.lengths;
     let count = b.call;
     if !book::may_check(b, n) {
@@ -130,7 +142,9 @@ fn act(
     tallies: &mut [u64],
     cells: &mut [i64],
     want: &mut [i64],
-) -> Book {
+) -> Book
+    ensures { λ r. ⌜ Acted b word (now (n .entry)) (now (setup .entry)) (now (call .entry)) (now (cells .entry)) (now (want .entry)) (now (tallies .entry)) (now (tallies .exit)) r ⌝ }
+{
     match word {
         CASE => begin_case(b, n, cells, want),
         SETUP => book::setup(b, n, setup),
@@ -152,7 +166,9 @@ fn take_line(
     tallies: &mut [u64],
     cells: &mut [i64],
     want: &mut [i64],
-) -> Book {
+) -> Book
+    ensures { λ r. ⌜ Taken b s (now (word .entry)) (now (numbers .entry)) (now (setup .entry)) (now (call .entry)) (now (cells .entry)) (now (want .entry)) (now (tallies .entry)) (now (tallies .exit)) r ⌝ }
+{
     let letters = s.letters;
     let n = s.count;
     if s.found == lines::ALL_READ {

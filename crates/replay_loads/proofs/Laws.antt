@@ -1,0 +1,82 @@
+-- Laws of the words, and of what is made of a call. Assumes nothing.
+use mathlib.Core.Bool.{Bool, true, false, not, cond, _&&_}
+use mathlib.Core.List.{List}
+use mathlib.Core.Path.{_≡_, refl, _∙_}
+use Prim.Native.Nat.{ℕ, zero, suc, _≤_, _<_}
+use native.Mathlib.Omega.{arith}
+use lib.Dec.{eqb}
+use lib.IntN.{ℤ, pos, natAbs}
+use lib.ListN.{length, take, List·getD-eq-default}
+use borrow.Author.Tests.{eqb-true, eqb-false}
+use Rattle.intops.specs.Choice.{eqZ}
+use Rattle.cases.specs.declared.Verdict.{Verdict}
+use Rattle.cases.specs.declared.Verdict.the-variants.{Agrees, Differs, NotACase}
+use Rattle.cases.specs.Numbers.{at, isOn, Inside}
+use Rattle.cases.specs.Verdicts.{WhenTrue, WhenAgrees}
+use Rattle.kept_cases.specs.KeptCase.{CaseAgrees}
+use Rattle.lines.specs.declared.State.{State}
+use Rattle.lines.specs.Line.{line}
+use Rattle.replay_loads.specs.declared.book.Book.{Book}
+use Rattle.replay_loads.specs.Words.{names, name, Numbered}
+use Rattle.replay_loads.specs.Calls.{differs, notALine, kindOf, left, tallied, MayCheck, Checked, counts, stops, Acted, Taken, uncounted, checks}
+
+-- the number of one of the six words
+pub is-word : {w : List ℕ} (k : ℕ) → 0 < k → k ≤ 6 → w ≡ name k → Numbered w k
+is-word k a b e = record { named = λ h. e; few = b; none = λ z. absurd (omega arith) }
+
+-- a word that is none of the six
+none-of : {w : List ℕ} → (w ≡ name 1 → ⊥) → (w ≡ name 2 → ⊥) → (w ≡ name 3 → ⊥) → (w ≡ name 4 → ⊥) → (w ≡ name 5 → ⊥) → (w ≡ name 6 → ⊥) → (k : ℕ) → 0 < k → k ≤ 6 → w ≡ name k → ⊥
+none-of h1 h2 h3 h4 h5 h6 zero a b e = omega arith
+none-of h1 h2 h3 h4 h5 h6 (suc zero) a b e = h1 e
+none-of h1 h2 h3 h4 h5 h6 (suc (suc zero)) a b e = h2 e
+none-of h1 h2 h3 h4 h5 h6 (suc (suc (suc zero))) a b e = h3 e
+none-of h1 h2 h3 h4 h5 h6 (suc (suc (suc (suc zero)))) a b e = h4 e
+none-of h1 h2 h3 h4 h5 h6 (suc (suc (suc (suc (suc zero))))) a b e = h5 e
+none-of h1 h2 h3 h4 h5 h6 (suc (suc (suc (suc (suc (suc zero)))))) a b e = h6 e
+none-of h1 h2 h3 h4 h5 h6 (suc (suc (suc (suc (suc (suc (suc k))))))) a b e = omega arith
+
+pub is-none : {w : List ℕ} → (w ≡ name 1 → ⊥) → (w ≡ name 2 → ⊥) → (w ≡ name 3 → ⊥) → (w ≡ name 4 → ⊥) → (w ≡ name 5 → ⊥) → (w ≡ name 6 → ⊥) → Numbered w 0
+is-none h1 h2 h3 h4 h5 h6 = record { named = λ h. absurd (omega arith); few = omega arith; none = λ z. none-of h1 h2 h3 h4 h5 h6 }
+
+-- ---- the answer of a call
+
+pub loaded : (n : List ℤ) → eqZ (at n 7) (pos 0) ≡ true → 0 ≡ kindOf n
+unfolding isOn
+loaded n e = rw e refl
+
+pub refused : (n : List ℤ) → eqZ (at n 7) (pos 0) ≡ false → 1 ≡ kindOf n
+unfolding isOn
+refused n e = rw e refl
+
+pub short-call : (n : List ℤ) → length n ≤ 7 → 0 ≡ kindOf n
+unfolding isOn
+short-call n h = rw (List·getD-eq-default n (pos 0) h) refl
+
+-- ---- a `check` line
+
+may-go : (b : Book) (n : List ℤ) {u : ℕ} (x y z : Bool) → eqb (b .call) 0 ≡ x → eqb (b .setup) 0 ≡ y → eqb (b .changed) u ≡ z → length n ≡ 1 → (Inside (pos 0) (pos 9223372036854775807) (at n 0) → u ≡ natAbs (at n 0)) → WhenTrue ((not x && not y) && z) (MayCheck b n)
+may-go b n true y z e f g l h = tt
+may-go b n false true z e f g l h = tt
+may-go b n false false false e f g l h = tt
+may-go b n {u} false false true e f g l h = record { one = l; called = eqb-false _ _ e; isSetUp = eqb-false _ _ f; allNamed = λ i. eqb-true (b .changed) u g ∙ h i }
+
+pub may : (b : Book) (n : List ℤ) {u : ℕ} → length n ≡ 1 → (Inside (pos 0) (pos 9223372036854775807) (at n 0) → u ≡ natAbs (at n 0)) → WhenTrue ((not (eqb (b .call) 0) && not (eqb (b .setup) 0)) && eqb (b .changed) u) (MayCheck b n)
+may b n {u} l h = may-go b n (eqb (b .call) 0) (eqb (b .setup) 0) (eqb (b .changed) u) refl refl refl l h
+
+pub checked-as : {b r : Book} {n setup call cells want : List ℤ} {t after : List ℕ} (v : Verdict) → MayCheck b n → WhenAgrees v (CaseAgrees (b .lengths) cells want setup (take (b .call) call)) → (r ≡ left v b) × (after ≡ tallied v (kindOf call) t) → Checked b n setup call cells want t after r
+checked-as Agrees m a j = counts m a (j .1) (j .0)
+checked-as Differs m a j = stops {why = differs} (omega arith) (j .1) (j .0)
+checked-as NotACase m a j = stops {why = notALine} (omega arith) (j .1) (j .0)
+
+-- ---- a line
+
+-- of another word than `check`
+pub other : {b r : Book} {k : ℕ} {n setup call cells want : List ℤ} {t : List ℕ} (j : ℕ) → k ≡ j → 0 < j → j < 6 → Acted b k n setup call cells want t t r
+other j e l m = record { checks = λ f. absurd (omega arith); others = λ f. refl; unknown = λ f. absurd (omega arith) }
+
+taken-go : {b r : Book} (s : State) (w : List ℕ) (n setup call cells want : List ℤ) {t after : List ℕ} (k : ℕ) (x : Bool) → eqb k 6 ≡ x → s .found ≡ line → Numbered (take (s .letters) w) k → Acted b k (take (s .count) n) setup call cells want t after r → Taken b s w n setup call cells want t after r
+taken-go s w n setup call cells want k true e f d a = let k6 = eqb-true k 6 e in checks f (rw k6 at (d .named (omega arith))) (a .checks k6)
+taken-go s w n setup call cells want k false e f d a = uncounted (a .others (eqb-false k 6 e))
+
+pub taken-as : {b r : Book} (s : State) (w : List ℕ) (n setup call cells want : List ℤ) {t after : List ℕ} (k : ℕ) → s .found ≡ line → Numbered (take (s .letters) w) k → Acted b k (take (s .count) n) setup call cells want t after r → Taken b s w n setup call cells want t after r
+taken-as s w n setup call cells want k f d a = taken-go s w n setup call cells want k (eqb k 6) refl f d a

@@ -1,0 +1,116 @@
+-- `replay_loads::act` meets its contract. Assumes nothing.
+use mathlib.Core.Path.{refl}
+use native.Mathlib.Omega.{arith}
+use Rattle.replay_loads.proofs.Laws.{other}
+use borrow.Author.Needs.{needs}
+use Rattle.replay_loads.proofs.act.Statement.{statement}
+use Rattle.replay_loads.proofs.act.Tie as tie
+
+begin-case-requires : tie.Need-begin-case-requires
+begin-case-requires c κs = search needs
+
+setup-requires : tie.Need-setup-requires
+setup-requires c κs = search needs
+
+set-requires : tie.Need-set-requires
+set-requires c κs = search needs
+
+begin-requires : tie.Need-begin-requires
+begin-requires c κs = search needs
+
+change-requires : tie.Need-change-requires
+change-requires c κs = search needs
+
+check-requires : tie.Need-check-requires
+check-requires c κs = search needs
+
+ended-requires : tie.Need-ended-requires
+ended-requires c κs = search needs
+
+same-length : tie.Need-same-length
+same-length c = search needs
+
+same-length-2 : tie.Need-same-length-2
+same-length-2 c = search needs
+
+returns : tie.Need-returns
+returns c = other 1 (c .before .before .before .before .before .match .keys1) (omega arith) (omega arith)
+
+same-length-3 : tie.Need-same-length-3
+same-length-3 c = search needs
+
+returns-2 : tie.Need-returns-2
+returns-2 c = other 2 (c .before .before .before .match .keys2) (omega arith) (omega arith)
+
+same-length-4 : tie.Need-same-length-4
+same-length-4 c = search needs
+
+same-length-5 : tie.Need-same-length-5
+same-length-5 c = search needs
+
+returns-3 : tie.Need-returns-3
+returns-3 c = other 3 (c .before .before .before .before .before .match .keys3) (omega arith) (omega arith)
+
+same-length-6 : tie.Need-same-length-6
+same-length-6 c = search needs
+
+returns-4 : tie.Need-returns-4
+returns-4 c = other 4 (c .before .before .before .match .keys4) (omega arith) (omega arith)
+
+same-length-7 : tie.Need-same-length-7
+same-length-7 c = search needs
+
+returns-5 : tie.Need-returns-5
+returns-5 c = other 5 (c .before .before .before .match .keys5) (omega arith) (omega arith)
+
+same-length-8 : tie.Need-same-length-8
+same-length-8 c = search needs
+
+same-length-9 : tie.Need-same-length-9
+same-length-9 c = search needs
+
+same-length-10 : tie.Need-same-length-10
+same-length-10 c = search needs
+
+same-length-11 : tie.Need-same-length-11
+same-length-11 c = search needs
+
+same-length-12 : tie.Need-same-length-12
+same-length-12 c = search needs
+
+returns-6 : tie.Need-returns-6
+returns-6 c = let k = c .before .before .before .before .before .before .before .before .before .match .keys6 in record { checks = λ e. c .before .before .before .check .ensures; others = λ h. absurd (h k); unknown = λ e. absurd (omega arith) }
+
+returns-7 : tie.Need-returns-7
+returns-7 c = record { checks = λ e. absurd (c .before .match .rest .1 e); others = λ h. refl; unknown = λ e. c .ended .ensures }
+
+pub act-spec : {M : Type 1} → statement M
+act-spec =
+    tie.close
+    (tie.spec
+    begin-case-requires
+    setup-requires
+    set-requires
+    begin-requires
+    change-requires
+    check-requires
+    ended-requires
+    same-length
+    same-length-2
+    returns
+    same-length-3
+    returns-2
+    same-length-4
+    same-length-5
+    returns-3
+    same-length-6
+    returns-4
+    same-length-7
+    returns-5
+    same-length-8
+    same-length-9
+    same-length-10
+    same-length-11
+    same-length-12
+    returns-6
+    returns-7)

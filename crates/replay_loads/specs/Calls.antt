@@ -1,0 +1,83 @@
+-- What replay_loads makes of a line: a call is counted only if a `check` line finds that it agrees. Assumes nothing.
+use mathlib.Core.Bool.{Bool, cond, _&&_}
+use mathlib.Core.List.{List}
+use mathlib.Core.Path.{_≡_}
+use Prim.Native.Nat.{ℕ, _<_}
+use lib.Dec.{eqb}
+use lib.IntN.{ℤ, pos, natAbs}
+use lib.ListN.{length, take}
+use Rattle.cases.specs.declared.Verdict.{Verdict}
+use Rattle.cases.specs.declared.Verdict.the-variants.{Agrees, Differs, NotACase}
+use Rattle.cases.specs.Numbers.{at, isOn, Inside}
+use Rattle.lines.specs.declared.State.{State}
+use Rattle.lines.specs.Line.{line, countedUp}
+use Rattle.kept_cases.specs.KeptCase.{CaseAgrees}
+use Rattle.replay_loads.specs.declared.book.Book.{Book}
+use Rattle.replay_loads.specs.Words.{name}
+
+-- how the run has ended, if it has; 4 is that a list has no room
+abbrev pub allRead : ℕ
+allRead = 1
+
+abbrev pub differs : ℕ
+differs = 2
+
+abbrev pub notALine : ℕ
+notALine = 3
+
+-- the book's fields in their order
+abbrev pub fields : ℕ → List ℕ → ℕ → ℕ → ℕ → ℕ → Book
+fields e l s c n d = record { ended = e; lengths = l; setup = s; call = c; line = n; changed = d }
+
+abbrev pub ended : ℕ → Book → Book
+ended why b = fields why (b .lengths) (b .setup) (b .call) (b .line) (b .changed)
+
+-- the call is checked: none is begun
+abbrev pub checked : Book → Book
+checked b = fields (b .ended) (b .lengths) (b .setup) 0 (b .line) (b .changed)
+
+-- a line after which nothing changes, if it may stand here
+abbrev pub passed : Bool → Book → Book
+passed may b = cond may b (ended notALine b)
+
+-- no call waits for its check
+abbrev pub isFree : Book → Bool
+isFree b = eqb (b .call) 0
+
+-- the answer is the last of a call's eight numbers: 0 is a load, the others are refusals
+abbrev pub kindOf : List ℤ → ℕ
+kindOf n = cond (isOn (at n 7)) 1 0
+
+-- what a verdict leaves of the book and of the tallies
+abbrev pub left : Verdict → Book → Book
+left Agrees b = checked b
+left Differs b = ended differs b
+left NotACase b = ended notALine b
+
+abbrev pub tallied : Verdict → ℕ → List ℕ → List ℕ
+tallied Agrees kind t = countedUp kind t
+tallied Differs kind t = t
+tallied NotACase kind t = t
+
+-- a `check` line with the numbers n may stand here
+pub record MayCheck (b : Book) (n : List ℤ) : Type 0 where
+  pub one : length n ≡ 1
+  pub called : b .call ≡ 0 → ⊥
+  pub isSetUp : b .setup ≡ 0 → ⊥
+  pub allNamed : Inside (pos 0) (pos 9223372036854775807) (at n 0) → b .changed ≡ natAbs (at n 0)
+
+-- what a `check` line leaves: the call has agreed and is counted; or the run ends, and nothing is
+pub data Checked (b : Book) (n setup call cells want : List ℤ) (before after : List ℕ) (r : Book) : Type 0 where
+  counts : MayCheck b n → CaseAgrees (b .lengths) cells want setup (take (b .call) call) → after ≡ countedUp (kindOf call) before → r ≡ checked b → Checked b n setup call cells want before after r
+  stops : {why : ℕ} → 0 < why → after ≡ before → r ≡ ended why b → Checked b n setup call cells want before after r
+
+-- what a line of word k leaves: the tallies are a `check` line's
+pub record Acted (b : Book) (k : ℕ) (n setup call cells want : List ℤ) (before after : List ℕ) (r : Book) : Type 0 where
+  pub checks : k ≡ 6 → Checked b n setup call cells want before after r
+  pub others : (k ≡ 6 → ⊥) → after ≡ before
+  pub unknown : k ≡ 0 → r ≡ ended notALine b
+
+-- what is made of what the reader found
+pub data Taken (b : Book) (s : State) (w : List ℕ) (n setup call cells want : List ℤ) (before after : List ℕ) (r : Book) : Type 0 where
+  uncounted : after ≡ before → Taken b s w n setup call cells want before after r
+  checks : s .found ≡ line → take (s .letters) w ≡ name 6 → Checked b (take (s .count) n) setup call cells want before after r → Taken b s w n setup call cells want before after r
