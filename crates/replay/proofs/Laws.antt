@@ -2,7 +2,7 @@
 use mathlib.Core.Bool.{Bool, true, false, cond}
 use mathlib.Core.List.{List, []}
 use mathlib.Core.Path.{_≡_, _∙_, refl}
-use Prim.Native.Nat.{ℕ, zero, suc, _+_, _%_, _^_, _≤_, _<_, min}
+use Prim.Native.Nat.{ℕ, zero, suc, _+_, _-_, _%_, _^_, _≤_, _<_, min}
 use native.Mathlib.Numerals.{add-one}
 use native.Mathlib.Omega.{arith}
 use lib.Dec.{leb, ltb, eqb, leb→le}
@@ -38,6 +38,17 @@ pub front-is : {out : List ℕ} {r : ℕ} (word before : List ℕ) → r ≡ min
 front-is {out} {r} word before e h o =
     let l : r ≡ length word = omega arith in
     rw o (take-at (take r word) (drop r before) r (length-take-le r word (omega arith)) ∙ take-all r word (omega arith))
+
+-- a word that is no name above j, and not that of j, is no name from j on
+none-from-go : {w : List ℕ} (j : ℕ) → ((k : ℕ) → j < k → k ≤ 8 → w ≡ name k → ⊥) → (w ≡ name j → ⊥) → (k : ℕ) (t : Bool) → ltb j k ≡ t → j - 1 < k → k ≤ 8 → w ≡ name k → ⊥
+none-from-go j above n k true e h l f = above k (ltb-true j k e) l f
+none-from-go {w} j above n k false e h l f =
+    let le = ltb-false j k e in
+    let same : k ≡ j = omega arith in
+    n (rw same at f)
+
+pub none-from : {w : List ℕ} (j : ℕ) → ((k : ℕ) → j < k → k ≤ 8 → w ≡ name k → ⊥) → (w ≡ name j → ⊥) → (k : ℕ) → j - 1 < k → k ≤ 8 → w ≡ name k → ⊥
+none-from j above n k = none-from-go j above n k (ltb j k) refl
 
 -- one kind more in the sum of the tallies
 pub one-more-kind : {sum tally : ℕ} (t : List ℕ) (k : ℕ) → sum ≡ agreed k t → tally ≡ getD t (k + 1) 0 → (sum + tally) % 2 ^ 64 ≡ agreed (k + 1) t

@@ -1,10 +1,10 @@
 // The kinds of cases: a new one has a number, a name of at most 16 letters and an arm here, and a
 // function in a crate of cases. There is room for 31 tallies.
 ghost use mathlib.Core.Path.{_≡_};
-ghost use Prim.Native.Nat.{_<_, min};
+ghost use Prim.Native.Nat.{ℕ, _≤_, _<_, min};
 ghost use lib.ListN.{length};
 ghost use Rattle.io.specs.Counts.{Counts};
-ghost use Rattle.cases.specs.Verdicts.{WhenTrue, WhenAgrees};
+ghost use Rattle.cases.specs.Verdicts.{Decides, WhenAgrees};
 ghost use Rattle.lines.specs.Line.{putIn};
 ghost use Rattle.replay.specs.Kinds.{name, Holds, agreed};
 use cases::Verdict;
@@ -65,7 +65,7 @@ pub fn judge(kind: usize, numbers: &[i64]) -> Verdict
 }
 
 fn is_name(kind: usize, word: &[u8]) -> bool
-    ensures { λ r. ⌜ WhenTrue r (now (word .entry) ≡ name kind) ⌝ }
+    ensures { λ r. ⌜ Decides r (now (word .entry) ≡ name kind) ⌝ }
 {
     let mut name = [0u8; 16];
     let n = put_name(kind, &mut name);
@@ -74,7 +74,7 @@ fn is_name(kind: usize, word: &[u8]) -> bool
 
 // The kind that has this name, or NONE.
 pub fn kind_of(word: &[u8]) -> usize
-    ensures { λ r. ⌜ (0 < r → now (word .entry) ≡ name r) ⌝ }
+    ensures { λ r. ⌜ (0 < r → now (word .entry) ≡ name r) × (r ≡ 0 → (k : ℕ) → 0 < k → k ≤ 8 → now (word .entry) ≡ name k → ⊥) ⌝ }
 {
     let mut kind = KINDS;
     while NONE < kind {

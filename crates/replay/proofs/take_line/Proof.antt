@@ -47,7 +47,7 @@ same-length : tie.Need-same-length
 same-length c = search needs
 
 returns-5 : tie.Need-returns-5
-returns-5 c = judged-as (c .before .before .before .before .before .before .before .before .before .before .before .before .before .before .before .args .s) (c .before .before .before .before .before .before .before .before .before .before .before .before .before .before .before .args .word .now) (c .before .before .before .before .before .before .before .before .before .before .before .before .before .before .before .args .numbers .now) (c .before .before .before .before .before .before .before .before .before .before .before .before .before .before .before .args .tallies .now) _ (c .before .before .before .before .before .kind-of .result) (c .before .before .judged .result) (c .before .before .before .before .before .before .before .before .before .if2 .left) (simp sub-zero at (c .before .before .before .before .before .kind-of .ensures)) (simp sub-zero at (c .before .before .judged .ensures))
+returns-5 c = judged-as (c .before .before .before .before .before .before .before .before .before .before .before .before .before .before .before .args .s) (c .before .before .before .before .before .before .before .before .before .before .before .before .before .before .before .args .word .now) (c .before .before .before .before .before .before .before .before .before .before .before .before .before .before .before .args .numbers .now) (c .before .before .before .before .before .before .before .before .before .before .before .before .before .before .before .args .tallies .now) _ (c .before .before .before .before .before .kind-of .result) (c .before .before .judged .result) (c .before .before .before .before .before .before .before .before .before .if2 .left) (simp sub-zero at (c .before .before .before .before .before .kind-of .ensures .0)) (simp sub-zero at (c .before .before .judged .ensures))
 
 pub take-line-spec : {M : Type 1} → statement M
 take-line-spec =

@@ -1,7 +1,7 @@
 -- `replay::kinds::is_name` meets its contract. Assumes nothing.
-use mathlib.Core.Path.{_∙_}
+use mathlib.Core.Path.{_≡_, _∙_, sym}
 use borrow.Author.Needs.{needs}
-use Rattle.cases.proofs.Verdicts.{when-true}
+use Rattle.cases.proofs.Verdicts.{decides}
 use Rattle.replay.specs.Kinds.{name}
 use Rattle.replay.proofs.Laws.{few-letters, front-is}
 use Rattle.replay.proofs.kinds.is_name.Statement.{statement}
@@ -26,7 +26,8 @@ returns : tie.Need-returns
 returns c =
     let a = c .before .before .before .before .before .before .args in
     let p = c .before .before .before .put-name .ensures .1 in
-    when-true (c .same-u8s .result) (λ e. e ∙ front-is (name (a .kind)) _ (p .0) (few-letters (a .kind)) (p .1)) (c .same-u8s .ensures)
+    let f = front-is (name (a .kind)) _ (p .0) (few-letters (a .kind)) (p .1) in
+    decides (c .same-u8s .result) (λ e. e ∙ f) (λ e. e ∙ sym f) (c .same-u8s .ensures)
 
 pub is-name-spec : {M : Type 1} → statement M
 is-name-spec =
