@@ -2,11 +2,14 @@
 use mathlib.Core.Bool.{Bool, true, false, not, cond, _&&_}
 use mathlib.Core.List.{List}
 use mathlib.Core.Path.{_≡_, refl, _∙_}
-use Prim.Native.Nat.{ℕ, zero, suc, _≤_, _<_}
+use Prim.Native.Nat.{ℕ, zero, suc, _+_, _≤_, _<_}
+use native.Mathlib.Nat.{zero-add}
+use native.Mathlib.Numerals.{add-one}
 use native.Mathlib.Omega.{arith}
 use lib.Dec.{eqb}
 use lib.IntN.{ℤ, pos, natAbs}
-use lib.ListN.{length, take, List·getD-eq-default}
+use lib.ListN.{length, set, take, List·getD-eq-default}
+use lib.Seq.{paste-suc}
 use borrow.Author.Tests.{eqb-true, eqb-false}
 use Rattle.intops.specs.Choice.{eqZ}
 use Rattle.cases.specs.declared.Verdict.{Verdict}
@@ -18,7 +21,7 @@ use Rattle.lines.specs.declared.State.{State}
 use Rattle.lines.specs.Line.{line}
 use Rattle.replay_loads.specs.declared.book.Book.{Book}
 use Rattle.replay_loads.specs.Words.{names, name, Numbered}
-use Rattle.replay_loads.specs.Calls.{differs, notALine, kindOf, left, tallied, MayCheck, Checked, counts, stops, Acted, Taken, uncounted, checks}
+use Rattle.replay_loads.specs.Calls.{put, copied, differs, notALine, kindOf, left, tallied, MayCheck, Checked, counts, stops, Acted, Taken, uncounted, checks}
 
 -- the number of one of the six words
 pub is-word : {w : List ℕ} (k : ℕ) → 0 < k → k ≤ 6 → w ≡ name k → Numbered w k
@@ -37,6 +40,11 @@ none-of h1 h2 h3 h4 h5 h6 (suc (suc (suc (suc (suc (suc (suc k))))))) a b e = om
 
 pub is-none : {w : List ℕ} → (w ≡ name 1 → ⊥) → (w ≡ name 2 → ⊥) → (w ≡ name 3 → ⊥) → (w ≡ name 4 → ⊥) → (w ≡ name 5 → ⊥) → (w ≡ name 6 → ⊥) → Numbered w 0
 is-none h1 h2 h3 h4 h5 h6 = record { named = λ h. absurd (omega arith); few = omega arith; none = λ z. none-of h1 h2 h3 h4 h5 h6 }
+
+-- ---- the numbers of a line
+
+pub put-more : (n to : List ℤ) (i : ℕ) → i < length to → i < length n → set (put i n to) i (at n i) ≡ put (i + 1) n to
+put-more n to i h k = rw add-one (simp zero-add at (paste-suc to 0 n i (pos 0) (omega arith) k))
 
 -- ---- the answer of a call
 
@@ -63,20 +71,20 @@ may-go b n {u} false false true e f g l h = record { one = l; called = eqb-false
 pub may : (b : Book) (n : List ℤ) {u : ℕ} → length n ≡ 1 → (Inside (pos 0) (pos 9223372036854775807) (at n 0) → u ≡ natAbs (at n 0)) → WhenTrue ((not (eqb (b .call) 0) && not (eqb (b .setup) 0)) && eqb (b .changed) u) (MayCheck b n)
 may b n {u} l h = may-go b n (eqb (b .call) 0) (eqb (b .setup) 0) (eqb (b .changed) u) refl refl refl l h
 
-pub checked-as : {b r : Book} {n setup call cells want : List ℤ} {t after : List ℕ} (v : Verdict) → MayCheck b n → WhenAgrees v (CaseAgrees (b .lengths) cells want setup (take (b .call) call)) → (r ≡ left v b) × (after ≡ tallied v (kindOf call) t) → Checked b n setup call cells want t after r
-checked-as Agrees m a j = counts m a (j .1) (j .0)
-checked-as Differs m a j = stops {why = differs} (omega arith) (j .1) (j .0)
-checked-as NotACase m a j = stops {why = notALine} (omega arith) (j .1) (j .0)
+pub checked-as : {b r : Book} {n setup call cells want l : List ℤ} {t after : List ℕ} (v : Verdict) → MayCheck b n → WhenAgrees v (CaseAgrees (b .lengths) cells want setup (take (b .call) call)) → l ≡ copied want cells → (r ≡ left v b) × (after ≡ tallied v (kindOf call) t) → Checked b n setup call cells want l t after r
+checked-as Agrees m a c j = counts m a (j .1) c (j .0)
+checked-as Differs m a c j = stops {why = differs} (omega arith) (j .1) (j .0)
+checked-as NotACase m a c j = stops {why = notALine} (omega arith) (j .1) (j .0)
 
 -- ---- a line
 
 -- of another word than `check`
-pub other : {b r : Book} {k : ℕ} {n setup call cells want : List ℤ} {t : List ℕ} (j : ℕ) → k ≡ j → 0 < j → j < 6 → Acted b k n setup call cells want t t r
-other j e l m = record { checks = λ f. absurd (omega arith); others = λ f. refl; unknown = λ f. absurd (omega arith) }
+pub other : {b r : Book} {k : ℕ} {n setup call cells want l : List ℤ} {t : List ℕ} (j : ℕ) → k ≡ j → 0 < j → j < 6 → Acted b k n setup call cells want l t t r
+other j e p m = record { checks = λ f. absurd (omega arith); others = λ f. refl; unknown = λ f. absurd (omega arith) }
 
-taken-go : {b r : Book} (s : State) (w : List ℕ) (n setup call cells want : List ℤ) {t after : List ℕ} (k : ℕ) (x : Bool) → eqb k 6 ≡ x → s .found ≡ line → Numbered (take (s .letters) w) k → Acted b k (take (s .count) n) setup call cells want t after r → Taken b s w n setup call cells want t after r
-taken-go s w n setup call cells want k true e f d a = let k6 = eqb-true k 6 e in checks f (rw k6 at (d .named (omega arith))) (a .checks k6)
-taken-go s w n setup call cells want k false e f d a = uncounted (a .others (eqb-false k 6 e))
+taken-go : {b r : Book} (s : State) (w : List ℕ) (n setup call cells want l : List ℤ) {t after : List ℕ} (k : ℕ) (x : Bool) → eqb k 6 ≡ x → s .found ≡ line → Numbered (take (s .letters) w) k → Acted b k (take (s .count) n) setup call cells want l t after r → Taken b s w n setup call cells want l t after r
+taken-go s w n setup call cells want l k true e f d a = let k6 = eqb-true k 6 e in checks f (rw k6 at (d .named (omega arith))) (a .checks k6)
+taken-go s w n setup call cells want l k false e f d a = uncounted (a .others (eqb-false k 6 e))
 
-pub taken-as : {b r : Book} (s : State) (w : List ℕ) (n setup call cells want : List ℤ) {t after : List ℕ} (k : ℕ) → s .found ≡ line → Numbered (take (s .letters) w) k → Acted b k (take (s .count) n) setup call cells want t after r → Taken b s w n setup call cells want t after r
-taken-as s w n setup call cells want k f d a = taken-go s w n setup call cells want k (eqb k 6) refl f d a
+pub taken-as : {b r : Book} (s : State) (w : List ℕ) (n setup call cells want l : List ℤ) {t after : List ℕ} (k : ℕ) → s .found ≡ line → Numbered (take (s .letters) w) k → Acted b k (take (s .count) n) setup call cells want l t after r → Taken b s w n setup call cells want l t after r
+taken-as s w n setup call cells want l k f d a = taken-go s w n setup call cells want l k (eqb k 6) refl f d a

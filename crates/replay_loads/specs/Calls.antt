@@ -1,11 +1,11 @@
 -- What replay_loads makes of a line: a call is counted only if a `check` line finds that it agrees. Assumes nothing.
 use mathlib.Core.Bool.{Bool, cond, _&&_}
-use mathlib.Core.List.{List}
+use mathlib.Core.List.{List, _++_}
 use mathlib.Core.Path.{_≡_}
-use Prim.Native.Nat.{ℕ, _<_}
+use Prim.Native.Nat.{ℕ, _<_, min}
 use lib.Dec.{eqb}
 use lib.IntN.{ℤ, pos, natAbs}
-use lib.ListN.{length, take}
+use lib.ListN.{length, take, drop}
 use Rattle.cases.specs.declared.Verdict.{Verdict}
 use Rattle.cases.specs.declared.Verdict.the-variants.{Agrees, Differs, NotACase}
 use Rattle.cases.specs.Numbers.{at, isOn, Inside}
@@ -14,6 +14,13 @@ use Rattle.lines.specs.Line.{line, countedUp}
 use Rattle.kept_cases.specs.KeptCase.{CaseAgrees}
 use Rattle.replay_loads.specs.declared.book.Book.{Book}
 use Rattle.replay_loads.specs.Words.{name}
+
+-- the first k of the numbers n put at the front of a list; and as many as fit
+abbrev pub put : ℕ → List ℤ → List ℤ → List ℤ
+put k n to = take k n ++ drop k to
+
+abbrev pub copied : List ℤ → List ℤ → List ℤ
+copied n to = put (min (length n) (length to)) n to
 
 -- how the run has ended, if it has; 4 is that a list has no room
 abbrev pub allRead : ℕ
@@ -44,6 +51,13 @@ passed may b = cond may b (ended notALine b)
 abbrev pub isFree : Book → Bool
 isFree b = eqb (b .call) 0
 
+-- a setup of k numbers; and a call of k numbers, on this line: no element is named as changed since
+abbrev pub setUp : ℕ → Book → Book
+setUp k b = fields (b .ended) (b .lengths) k (b .call) (b .line) (b .changed)
+
+abbrev pub begun : ℕ → ℕ → Book → Book
+begun k l b = fields (b .ended) (b .lengths) (b .setup) k l 0
+
 -- the answer is the last of a call's eight numbers: 0 is a load, the others are refusals
 abbrev pub kindOf : List ℤ → ℕ
 kindOf n = cond (isOn (at n 7)) 1 0
@@ -66,18 +80,18 @@ pub record MayCheck (b : Book) (n : List ℤ) : Type 0 where
   pub isSetUp : b .setup ≡ 0 → ⊥
   pub allNamed : Inside (pos 0) (pos 9223372036854775807) (at n 0) → b .changed ≡ natAbs (at n 0)
 
--- what a `check` line leaves: the call has agreed and is counted; or the run ends, and nothing is
-pub data Checked (b : Book) (n setup call cells want : List ℤ) (before after : List ℕ) (r : Book) : Type 0 where
-  counts : MayCheck b n → CaseAgrees (b .lengths) cells want setup (take (b .call) call) → after ≡ countedUp (kindOf call) before → r ≡ checked b → Checked b n setup call cells want before after r
-  stops : {why : ℕ} → 0 < why → after ≡ before → r ≡ ended why b → Checked b n setup call cells want before after r
+-- what a `check` line leaves: the call has agreed and is counted, and the lists are the wanted ones; or the run ends, and nothing is
+pub data Checked (b : Book) (n setup call cells want left : List ℤ) (before after : List ℕ) (r : Book) : Type 0 where
+  counts : MayCheck b n → CaseAgrees (b .lengths) cells want setup (take (b .call) call) → after ≡ countedUp (kindOf call) before → left ≡ copied want cells → r ≡ checked b → Checked b n setup call cells want left before after r
+  stops : {why : ℕ} → 0 < why → after ≡ before → r ≡ ended why b → Checked b n setup call cells want left before after r
 
 -- what a line of word k leaves: the tallies are a `check` line's
-pub record Acted (b : Book) (k : ℕ) (n setup call cells want : List ℤ) (before after : List ℕ) (r : Book) : Type 0 where
-  pub checks : k ≡ 6 → Checked b n setup call cells want before after r
+pub record Acted (b : Book) (k : ℕ) (n setup call cells want left : List ℤ) (before after : List ℕ) (r : Book) : Type 0 where
+  pub checks : k ≡ 6 → Checked b n setup call cells want left before after r
   pub others : (k ≡ 6 → ⊥) → after ≡ before
   pub unknown : k ≡ 0 → r ≡ ended notALine b
 
 -- what is made of what the reader found
-pub data Taken (b : Book) (s : State) (w : List ℕ) (n setup call cells want : List ℤ) (before after : List ℕ) (r : Book) : Type 0 where
-  uncounted : after ≡ before → Taken b s w n setup call cells want before after r
-  checks : s .found ≡ line → take (s .letters) w ≡ name 6 → Checked b (take (s .count) n) setup call cells want before after r → Taken b s w n setup call cells want before after r
+pub data Taken (b : Book) (s : State) (w : List ℕ) (n setup call cells want left : List ℤ) (before after : List ℕ) (r : Book) : Type 0 where
+  uncounted : after ≡ before → Taken b s w n setup call cells want left before after r
+  checks : s .found ≡ line → take (s .letters) w ≡ name 6 → Checked b (take (s .count) n) setup call cells want left before after r → Taken b s w n setup call cells want left before after r

@@ -1,8 +1,10 @@
 // What the lines have said so far.
 ghost use mathlib.Core.Bool.{cond, _&&_};
 ghost use mathlib.Core.Path.{_≡_};
+ghost use lib.Dec.{eqb};
+ghost use lib.ListN.{length};
 ghost use Rattle.cases.specs.Verdicts.{WhenTrue};
-ghost use Rattle.replay_loads.specs.Calls.{allRead, notALine, ended, checked, passed, isFree, MayCheck};
+ghost use Rattle.replay_loads.specs.Calls.{allRead, notALine, ended, checked, passed, isFree, copied, setUp, begun, MayCheck};
 use crate::lists;
 
 // How the run has ended, if it has.
@@ -67,7 +69,9 @@ pub fn case(b: Book, n: &[i64]) -> Book {
     next
 }
 
-pub fn setup(mut b: Book, n: &[i64], setup: &mut [i64]) -> Book {
+pub fn setup(mut b: Book, n: &[i64], setup: &mut [i64]) -> Book
+    ensures { λ r. ⌜ (r ≡ cond (isFree b) (passed (eqb (length (now (n .entry))) 171) (setUp (length (now (n .entry))) b)) (ended notALine b)) × (now (setup .exit) ≡ cond (isFree b) (copied (now (n .entry)) (now (setup .entry))) (now (setup .entry))) ⌝ }
+{
     if b.call != 0 {
         return ended(b, NOT_A_LINE);
     }
@@ -92,7 +96,9 @@ pub fn set(b: Book, is_set: bool) -> Book
 }
 
 // A call has `count` numbers.
-pub fn begin(mut b: Book, line: u64, count: usize, n: &[i64], call: &mut [i64]) -> Book {
+pub fn begin(mut b: Book, line: u64, count: usize, n: &[i64], call: &mut [i64]) -> Book
+    ensures { λ r. ⌜ (r ≡ cond (isFree b && eqb (length (now (n .entry))) count) (begun count line b) (ended notALine b)) × (now (call .exit) ≡ cond (isFree b && eqb (length (now (n .entry))) count) (copied (now (n .entry)) (now (call .entry))) (now (call .entry))) ⌝ }
+{
     if b.call != 0 {
         return ended(b, NOT_A_LINE);
     }

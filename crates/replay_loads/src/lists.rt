@@ -1,4 +1,6 @@
 // The lists of a case in one list of numbers (load_cases has the places where they begin).
+ghost use mathlib.Core.Path.{_≡_};
+ghost use Rattle.replay_loads.specs.Calls.{copied};
 
 // Where a list begins; list 8 is past the last.
 fn start_of(list: usize) -> usize {
@@ -30,7 +32,9 @@ pub fn clear(to: &mut [i64]) {
 }
 
 // Copies what fits of the numbers.
-pub fn copy(n: &[i64], to: &mut [i64]) {
+pub fn copy(n: &[i64], to: &mut [i64])
+    ensures { λ _. ⌜ now (to .exit) ≡ copied (now (n .entry)) (now (to .entry)) ⌝ }
+{
     let mut i = 0;
     while i < n.len() {
         if to.len() <= i {

@@ -55,7 +55,7 @@ returns-3 : tie.Need-returns-3
 returns-3 c =
     let j = c .before .before .before .before .before .before .before .before .judge in
     let k = c .before .before .before .before .kind-of in
-    checked-as (j .result) (passed (c .before .before .before .before .before .before .before .before .before .before .before .before .before .may-check .result) (c .before .before .before .before .before .before .before .before .before .before .before .before .if1 .left) (c .before .before .before .before .before .before .before .before .before .before .before .before .before .may-check .ensures)) (simp sub-zero at (j .ensures)) (rw (k .ensures) at (c .before .before .judged .ensures))
+    checked-as (j .result) (passed (c .before .before .before .before .before .before .before .before .before .before .before .before .before .may-check .result) (c .before .before .before .before .before .before .before .before .before .before .before .before .if1 .left) (c .before .before .before .before .before .before .before .before .before .before .before .before .before .may-check .ensures)) (simp sub-zero at (j .ensures)) (c .before .before .before .before .before .before .copy .ensures) (rw (k .ensures) at (c .before .before .judged .ensures))
 
 pub check-spec : {M : Type 1} → statement M
 check-spec =

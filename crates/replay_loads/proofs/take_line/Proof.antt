@@ -73,7 +73,7 @@ same-length-5 c = search needs
 returns-5 : tie.Need-returns-5
 returns-5 c =
     let a = c .before .before .before .before .before .before .before .before .before .before .before .before .before .before .before .before .before .before .before .before .before .before .before .args in
-    taken-as (a .s) (a .word .now) (a .numbers .now) (a .setup .now) (a .call .now) (a .cells .now) (a .want .now) (c .before .before .before .before .before .before .before .before .before .before .before .before .before .word-of .result) (c .before .before .before .before .before .before .before .before .before .before .before .before .before .before .before .before .before .if2 .left) (simp sub-zero at (c .before .before .before .before .before .before .before .before .before .before .before .before .before .word-of .ensures)) (simp sub-zero at (c .before .before .before .before .before .before .act .ensures))
+    taken-as (a .s) (a .word .now) (a .numbers .now) (a .setup .now) (a .call .now) (a .cells .now) (a .want .now) _ (c .before .before .before .before .before .before .before .before .before .before .before .before .before .word-of .result) (c .before .before .before .before .before .before .before .before .before .before .before .before .before .before .before .before .before .if2 .left) (simp sub-zero at (c .before .before .before .before .before .before .before .before .before .before .before .before .before .word-of .ensures)) (simp sub-zero at (c .before .before .before .before .before .before .act .ensures))
 
 pub take-line-spec : {M : Type 1} → statement M
 take-line-spec =

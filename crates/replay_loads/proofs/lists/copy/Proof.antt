@@ -1,14 +1,22 @@
--- `replay_loads::lists::copy` is safe and ends. The measure is what is left of the numbers; the list keeps its length. Assumes nothing.
-use mathlib.Core.Path.{_≡_}
-use Prim.Native.Nat.{_-_}
+-- `replay_loads::lists::copy` meets its contract. The invariant: the first i numbers are put. The measure is what is left of the numbers. Assumes nothing.
+use mathlib.Core.List.{List}
+use mathlib.Core.Path.{_≡_, ap, _∙_}
+use Prim.Native.Nat.{_-_, _≤_, min}
 use native.Mathlib.Omega.{arith}
-use lib.ListN.{length, length-set}
+use mir.Syntax.{w64}
+use mir.Val.{SFits}
+use lib.IntN.{ℤ}
+use lib.ListN.{length, set, length-set}
+use Rattle.intops.proofs.Signed.{back}
+use Rattle.cases.specs.Numbers.{at}
 use borrow.Author.Needs.{needs}
+use Rattle.replay_loads.specs.Calls.{put}
+use Rattle.replay_loads.proofs.Laws.{put-more}
 use Rattle.replay_loads.proofs.lists.copy.Statement.{statement}
 use Rattle.replay_loads.proofs.lists.copy.Tie as tie
 
 abbrev Inv-loop : tie.InvT-loop
-Inv-loop n to₀ i₀ to i = length to ≡ length to₀
+Inv-loop n to₀ i₀ to i = (length to ≡ length to₀) × (i ≤ length to) × (i ≤ length n) × (to ≡ put i n to₀)
 
 abbrev μ-loop : tie.MeasureT-loop
 μ-loop n to₀ i₀ to i = length n - i
@@ -20,7 +28,7 @@ same-length : tie.Need-same-length Inv-loop μ-loop
 same-length c = search needs
 
 returns : tie.Need-returns Inv-loop μ-loop
-returns c = search needs
+returns c = let l = c .before .before .loop in let e : min (length (c .before .before .before .args .n .now)) (length (c .before .before .before .args .to .now)) ≡ l .i = omega arith in rw e (l .inv .3)
 
 mul-to : tie.Need-mul-to Inv-loop μ-loop
 mul-to c = search needs
@@ -41,13 +49,21 @@ loop-less : tie.Need-loop-less Inv-loop μ-loop
 loop-less c = search needs
 
 loop-again : tie.Need-loop-again Inv-loop μ-loop
-loop-again c = simp length-set (omega arith)
+loop-again c =
+    let l = c .before .before .before .loop in
+    let n = c .before .before .before .before .args .n .now in
+    let f : SFits w64 (at n (l .i)) = search needs in (
+      simp length-set (omega arith),
+      simp length-set (omega arith),
+      omega arith,
+      simp back (ap (λ (o : List ℤ). set o (l .i) (at n (l .i))) (l .inv .3) ∙ put-more n (c .before .before .before .before .args .to .now) (l .i) (omega arith) (omega arith)),
+    )
 
 same-length-2 : tie.Need-same-length-2 Inv-loop μ-loop
 same-length-2 c = search needs
 
 returns-2 : tie.Need-returns-2 Inv-loop μ-loop
-returns-2 c = search needs
+returns-2 c = let l = c .before .loop in let e : min (length (c .before .before .args .n .now)) (length (c .before .before .args .to .now)) ≡ l .i = omega arith in rw e (l .inv .3)
 
 pub copy-spec : {M : Type 1} → statement M
 copy-spec =
