@@ -17,11 +17,9 @@ use Rattle.cases.specs.declared.Verdict.the-variants.{Agrees, Differs, NotACase
 use Rattle.cases.specs.Numbers.{at, isOn, Inside}
 use Rattle.cases.specs.Verdicts.{WhenTrue, WhenAgrees}
 use Rattle.kept_cases.specs.KeptCase.{CaseAgrees}
-use Rattle.lines.specs.declared.State.{State}
-use Rattle.lines.specs.Line.{line}
 use Rattle.replay_loads.specs.declared.book.Book.{Book}
 use Rattle.replay_loads.specs.Words.{names, name, Numbered}
-use Rattle.replay_loads.specs.Calls.{put, copied, differs, notALine, kindOf, left, tallied, MayCheck, Checked, counts, stops, Acted, Taken, uncounted, checks}
+use Rattle.replay_loads.specs.Calls.{put, copied, differs, notALine, kindOf, left, tallied, MayCheck, Checked, counts, stops, Acted}
 
 -- the number of one of the six words
 pub is-word : {w : List ℕ} (k : ℕ) → 0 < k → k ≤ 6 → w ≡ name k → Numbered w k
@@ -78,13 +76,14 @@ checked-as NotACase m a c j = stops {why = notALine} (omega arith) (j .1) (j .0)
 
 -- ---- a line
 
--- of another word than `check`
-pub other : {b r : Book} {k : ℕ} {n setup call cells want l : List ℤ} {t : List ℕ} (j : ℕ) → k ≡ j → 0 < j → j < 6 → Acted b k n setup call cells want l t t r
-other j e p m = record { checks = λ f. absurd (omega arith); others = λ f. refl; unknown = λ f. absurd (omega arith) }
-
-taken-go : {b r : Book} (s : State) (w : List ℕ) (n setup call cells want l : List ℤ) {t after : List ℕ} (k : ℕ) (x : Bool) → eqb k 6 ≡ x → s .found ≡ line → Numbered (take (s .letters) w) k → Acted b k (take (s .count) n) setup call cells want l t after r → Taken b s w n setup call cells want l t after r
-taken-go s w n setup call cells want l k true e f d a = let k6 = eqb-true k 6 e in checks f (rw k6 at (d .named (omega arith))) (a .checks k6)
-taken-go s w n setup call cells want l k false e f d a = uncounted (a .others (eqb-false k 6 e))
-
-pub taken-as : {b r : Book} (s : State) (w : List ℕ) (n setup call cells want l : List ℤ) {t after : List ℕ} (k : ℕ) → s .found ≡ line → Numbered (take (s .letters) w) k → Acted b k (take (s .count) n) setup call cells want l t after r → Taken b s w n setup call cells want l t after r
-taken-as s w n setup call cells want l k f d a = taken-go s w n setup call cells want l k (eqb k 6) refl f d a
+-- of the words `case`, `set` and `changed`
+pub other : {b r : Book} {k l : ℕ} {n setup call cells want left : List ℤ} {t : List ℕ} (j : ℕ) → k ≡ j → 0 < j → j < 6 → (j ≡ 2 → ⊥) → (j ≡ 4 → ⊥) → Acted b k l n setup call cells want setup call left t t r
+other j e p m x y = record {
+  setsUp = λ f. absurd (omega arith);
+  begins = λ f. absurd (omega arith);
+  checks = λ f. absurd (omega arith);
+  unknown = λ f. absurd (omega arith);
+  sameSetup = λ f. refl;
+  sameCall = λ f. refl;
+  uncounted = λ f. refl;
+}

@@ -10,10 +10,10 @@ use Rattle.cases.specs.declared.Verdict.{Verdict}
 use Rattle.cases.specs.declared.Verdict.the-variants.{Agrees, Differs, NotACase}
 use Rattle.cases.specs.Numbers.{at, isOn, Inside}
 use Rattle.lines.specs.declared.State.{State}
-use Rattle.lines.specs.Line.{line, countedUp}
+use Rattle.lines.specs.Line.{line, allRead, countedUp}
 use Rattle.kept_cases.specs.KeptCase.{CaseAgrees}
 use Rattle.replay_loads.specs.declared.book.Book.{Book}
-use Rattle.replay_loads.specs.Words.{name}
+use Rattle.replay_loads.specs.Words.{Numbered}
 
 -- the first k of the numbers n put at the front of a list; and as many as fit
 abbrev pub put : ℕ → List ℤ → List ℤ → List ℤ
@@ -23,8 +23,8 @@ abbrev pub copied : List ℤ → List ℤ → List ℤ
 copied n to = put (min (length n) (length to)) n to
 
 -- how the run has ended, if it has; 4 is that a list has no room
-abbrev pub allRead : ℕ
-allRead = 1
+abbrev pub allTaken : ℕ
+allTaken = 1
 
 abbrev pub differs : ℕ
 differs = 2
@@ -58,6 +58,13 @@ setUp k b = fields (b .ended) (b .lengths) k (b .call) (b .line) (b .changed)
 abbrev pub begun : ℕ → ℕ → Book → Book
 begun k l b = fields (b .ended) (b .lengths) (b .setup) k l 0
 
+-- what a `setup` line of m numbers leaves; and a `call` line, for calls of k numbers
+abbrev pub setupLeaves : ℕ → Book → Book
+setupLeaves m b = cond (isFree b) (passed (eqb m 171) (setUp m b)) (ended notALine b)
+
+abbrev pub callLeaves : ℕ → ℕ → ℕ → Book → Book
+callLeaves k l m b = cond (isFree b && eqb m k) (begun k l b) (ended notALine b)
+
 -- the answer is the last of a call's eight numbers: 0 is a load, the others are refusals
 abbrev pub kindOf : List ℤ → ℕ
 kindOf n = cond (isOn (at n 7)) 1 0
@@ -85,13 +92,18 @@ pub data Checked (b : Book) (n setup call cells want left : List ℤ) (before af
   counts : MayCheck b n → CaseAgrees (b .lengths) cells want setup (take (b .call) call) → after ≡ countedUp (kindOf call) before → left ≡ copied want cells → r ≡ checked b → Checked b n setup call cells want left before after r
   stops : {why : ℕ} → 0 < why → after ≡ before → r ≡ ended why b → Checked b n setup call cells want left before after r
 
--- what a line of word k leaves: the tallies are a `check` line's
-pub record Acted (b : Book) (k : ℕ) (n setup call cells want left : List ℤ) (before after : List ℕ) (r : Book) : Type 0 where
+-- what a line of word k, with the numbers n, leaves of the setup's and the call's numbers, the lists, the tallies and the book
+pub record Acted (b : Book) (k l : ℕ) (n setup call cells want setup2 call2 left : List ℤ) (before after : List ℕ) (r : Book) : Type 0 where
+  pub setsUp : k ≡ 2 → (r ≡ setupLeaves (length n) b) × (setup2 ≡ cond (isFree b) (copied n setup) setup)
+  pub begins : k ≡ 4 → (r ≡ callLeaves 8 l (length n) b) × (call2 ≡ cond (isFree b && eqb (length n) 8) (copied n call) call)
   pub checks : k ≡ 6 → Checked b n setup call cells want left before after r
-  pub others : (k ≡ 6 → ⊥) → after ≡ before
   pub unknown : k ≡ 0 → r ≡ ended notALine b
+  pub sameSetup : (k ≡ 2 → ⊥) → setup2 ≡ setup
+  pub sameCall : (k ≡ 4 → ⊥) → call2 ≡ call
+  pub uncounted : (k ≡ 6 → ⊥) → after ≡ before
 
--- what is made of what the reader found
-pub data Taken (b : Book) (s : State) (w : List ℕ) (n setup call cells want left : List ℤ) (before after : List ℕ) (r : Book) : Type 0 where
-  uncounted : after ≡ before → Taken b s w n setup call cells want left before after r
-  checks : s .found ≡ line → take (s .letters) w ≡ name 6 → Checked b (take (s .count) n) setup call cells want left before after r → Taken b s w n setup call cells want left before after r
+-- what is made of what the reader found: the line is taken, or the run ends
+pub data Taken (b : Book) (s : State) (w : List ℕ) (n setup call cells want setup2 call2 left : List ℤ) (before after : List ℕ) (r : Book) : Type 0 where
+  acts : {k : ℕ} → s .found ≡ line → Numbered (take (s .letters) w) k → Acted b k (s .line) (take (s .count) n) setup call cells want setup2 call2 left before after r → Taken b s w n setup call cells want setup2 call2 left before after r
+  ends : s .found ≡ allRead → after ≡ before → r ≡ ended (cond (isFree b) allTaken notALine) b → Taken b s w n setup call cells want setup2 call2 left before after r
+  refuses : (s .found ≡ allRead → ⊥) → after ≡ before → r ≡ ended notALine b → Taken b s w n setup call cells want setup2 call2 left before after r

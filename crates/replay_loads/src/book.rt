@@ -4,7 +4,7 @@ ghost use mathlib.Core.Path.{_≡_};
 ghost use lib.Dec.{eqb};
 ghost use lib.ListN.{length};
 ghost use Rattle.cases.specs.Verdicts.{WhenTrue};
-ghost use Rattle.replay_loads.specs.Calls.{allRead, notALine, ended, checked, passed, isFree, copied, setUp, begun, MayCheck};
+ghost use Rattle.replay_loads.specs.Calls.{allTaken, notALine, ended, checked, passed, isFree, copied, setupLeaves, callLeaves, MayCheck};
 use crate::lists;
 
 // How the run has ended, if it has.
@@ -70,7 +70,7 @@ pub fn case(b: Book, n: &[i64]) -> Book {
 }
 
 pub fn setup(mut b: Book, n: &[i64], setup: &mut [i64]) -> Book
-    ensures { λ r. ⌜ (r ≡ cond (isFree b) (passed (eqb (length (now (n .entry))) 171) (setUp (length (now (n .entry))) b)) (ended notALine b)) × (now (setup .exit) ≡ cond (isFree b) (copied (now (n .entry)) (now (setup .entry))) (now (setup .entry))) ⌝ }
+    ensures { λ r. ⌜ (r ≡ setupLeaves (length (now (n .entry))) b) × (now (setup .exit) ≡ cond (isFree b) (copied (now (n .entry)) (now (setup .entry))) (now (setup .entry))) ⌝ }
 {
     if b.call != 0 {
         return ended(b, NOT_A_LINE);
@@ -97,7 +97,7 @@ pub fn set(b: Book, is_set: bool) -> Book
 
 // A call has `count` numbers.
 pub fn begin(mut b: Book, line: u64, count: usize, n: &[i64], call: &mut [i64]) -> Book
-    ensures { λ r. ⌜ (r ≡ cond (isFree b && eqb (length (now (n .entry))) count) (begun count line b) (ended notALine b)) × (now (call .exit) ≡ cond (isFree b && eqb (length (now (n .entry))) count) (copied (now (n .entry)) (now (call .entry))) (now (call .entry))) ⌝ }
+    ensures { λ r. ⌜ (r ≡ callLeaves count line (length (now (n .entry))) b) × (now (call .exit) ≡ cond (isFree b && eqb (length (now (n .entry))) count) (copied (now (n .entry)) (now (call .entry))) (now (call .entry))) ⌝ }
 {
     if b.call != 0 {
         return ended(b, NOT_A_LINE);
@@ -146,7 +146,7 @@ pub fn checked(mut b: Book) -> Book
 
 // The last call has its check.
 pub fn all_read(b: Book) -> Book
-    ensures { λ r. ⌜ r ≡ ended (cond (isFree b) allRead notALine) b ⌝ }
+    ensures { λ r. ⌜ r ≡ ended (cond (isFree b) allTaken notALine) b ⌝ }
 {
     if b.call != 0 {
         return ended(b, NOT_A_LINE);

@@ -143,7 +143,7 @@ fn act(
     cells: &mut [i64],
     want: &mut [i64],
 ) -> Book
-    ensures { λ r. ⌜ Acted b word (now (n .entry)) (now (setup .entry)) (now (call .entry)) (now (cells .entry)) (now (want .entry)) (now (cells .exit)) (now (tallies .entry)) (now (tallies .exit)) r ⌝ }
+    ensures { λ r. ⌜ Acted b word line (now (n .entry)) (now (setup .entry)) (now (call .entry)) (now (cells .entry)) (now (want .entry)) (now (setup .exit)) (now (call .exit)) (now (cells .exit)) (now (tallies .entry)) (now (tallies .exit)) r ⌝ }
 {
     match word {
         CASE => begin_case(b, n, cells, want),
@@ -167,7 +167,7 @@ fn take_line(
     cells: &mut [i64],
     want: &mut [i64],
 ) -> Book
-    ensures { λ r. ⌜ Taken b s (now (word .entry)) (now (numbers .entry)) (now (setup .entry)) (now (call .entry)) (now (cells .entry)) (now (want .entry)) (now (cells .exit)) (now (tallies .entry)) (now (tallies .exit)) r ⌝ }
+    ensures { λ r. ⌜ Taken b s (now (word .entry)) (now (numbers .entry)) (now (setup .entry)) (now (call .entry)) (now (cells .entry)) (now (want .entry)) (now (setup .exit)) (now (call .exit)) (now (cells .exit)) (now (tallies .entry)) (now (tallies .exit)) r ⌝ }
 {
     let letters = s.letters;
     let n = s.count;

@@ -34,13 +34,15 @@ same-length-2 : tie.Need-same-length-2
 same-length-2 c = search needs
 
 returns : tie.Need-returns
-returns c = other 1 (c .before .before .before .before .before .match .keys1) (omega arith) (omega arith)
+returns c = other 1 (c .before .before .before .before .before .match .keys1) (omega arith) (omega arith) (λ f. omega arith) (λ f. omega arith)
 
 same-length-3 : tie.Need-same-length-3
 same-length-3 c = search needs
 
 returns-2 : tie.Need-returns-2
-returns-2 c = other 2 (c .before .before .before .match .keys2) (omega arith) (omega arith)
+returns-2 c =
+    let k = c .before .before .before .match .keys2 in
+    record { setsUp = λ f. c .before .setup .ensures; begins = λ f. absurd (omega arith); checks = λ f. absurd (omega arith); unknown = λ f. absurd (omega arith); sameSetup = λ f. absurd (f k); sameCall = λ f. refl; uncounted = λ f. refl }
 
 same-length-4 : tie.Need-same-length-4
 same-length-4 c = search needs
@@ -49,19 +51,21 @@ same-length-5 : tie.Need-same-length-5
 same-length-5 c = search needs
 
 returns-3 : tie.Need-returns-3
-returns-3 c = other 3 (c .before .before .before .before .before .match .keys3) (omega arith) (omega arith)
+returns-3 c = other 3 (c .before .before .before .before .before .match .keys3) (omega arith) (omega arith) (λ f. omega arith) (λ f. omega arith)
 
 same-length-6 : tie.Need-same-length-6
 same-length-6 c = search needs
 
 returns-4 : tie.Need-returns-4
-returns-4 c = other 4 (c .before .before .before .match .keys4) (omega arith) (omega arith)
+returns-4 c =
+    let k = c .before .before .before .match .keys4 in
+    record { setsUp = λ f. absurd (omega arith); begins = λ f. c .before .begin .ensures; checks = λ f. absurd (omega arith); unknown = λ f. absurd (omega arith); sameSetup = λ f. refl; sameCall = λ f. absurd (f k); uncounted = λ f. refl }
 
 same-length-7 : tie.Need-same-length-7
 same-length-7 c = search needs
 
 returns-5 : tie.Need-returns-5
-returns-5 c = other 5 (c .before .before .before .match .keys5) (omega arith) (omega arith)
+returns-5 c = other 5 (c .before .before .before .match .keys5) (omega arith) (omega arith) (λ f. omega arith) (λ f. omega arith)
 
 same-length-8 : tie.Need-same-length-8
 same-length-8 c = search needs
@@ -79,10 +83,14 @@ same-length-12 : tie.Need-same-length-12
 same-length-12 c = search needs
 
 returns-6 : tie.Need-returns-6
-returns-6 c = let k = c .before .before .before .before .before .before .before .before .before .match .keys6 in record { checks = λ e. c .before .before .before .check .ensures; others = λ h. absurd (h k); unknown = λ e. absurd (omega arith) }
+returns-6 c =
+    let k = c .before .before .before .before .before .before .before .before .before .match .keys6 in
+    record { setsUp = λ f. absurd (omega arith); begins = λ f. absurd (omega arith); checks = λ f. c .before .before .before .check .ensures; unknown = λ f. absurd (omega arith); sameSetup = λ f. refl; sameCall = λ f. refl; uncounted = λ f. absurd (f k) }
 
 returns-7 : tie.Need-returns-7
-returns-7 c = record { checks = λ e. absurd (c .before .match .rest .1 e); others = λ h. refl; unknown = λ e. c .ended .ensures }
+returns-7 c =
+    let m = c .before .match .rest in
+    record { setsUp = λ f. absurd (m .0 .0 .0 .0 .1 f); begins = λ f. absurd (m .0 .0 .1 f); checks = λ f. absurd (m .1 f); unknown = λ f. c .ended .ensures; sameSetup = λ f. refl; sameCall = λ f. refl; uncounted = λ f. refl }
 
 pub act-spec : {M : Type 1} → statement M
 act-spec =

@@ -1,8 +1,7 @@
 -- `replay_loads::take_line` meets its contract. Assumes nothing.
 use mathlib.Core.Path.{refl}
-use Rattle.replay_loads.specs.Calls.{uncounted}
+use Rattle.replay_loads.specs.Calls.{acts, ends, refuses}
 use native.Mathlib.Nat.{sub-zero}
-use Rattle.replay_loads.proofs.Laws.{taken-as}
 use borrow.Author.Needs.{needs}
 use Rattle.replay_loads.proofs.take_line.Statement.{statement}
 use Rattle.replay_loads.proofs.take_line.Tie as tie
@@ -11,25 +10,29 @@ all-read-requires : tie.Need-all-read-requires
 all-read-requires c κs = search needs
 
 returns : tie.Need-returns
-returns c = uncounted refl
+returns c =
+    ends (c .before .if1 .taken) refl (c .all-read .ensures)
 
 ended-requires : tie.Need-ended-requires
 ended-requires c κs = search needs
 
 returns-2 : tie.Need-returns-2
-returns-2 c = uncounted refl
+returns-2 c =
+    refuses (c .before .before .before .if1 .left) refl (c .ended .ensures)
 
 ended-requires-2 : tie.Need-ended-requires-2
 ended-requires-2 c κs = search needs
 
 returns-3 : tie.Need-returns-3
-returns-3 c = uncounted refl
+returns-3 c =
+    refuses (c .before .before .before .before .if1 .left) refl (c .ended2 .ensures)
 
 ended-requires-3 : tie.Need-ended-requires-3
 ended-requires-3 c κs = search needs
 
 returns-4 : tie.Need-returns-4
-returns-4 c = uncounted refl
+returns-4 c =
+    refuses (c .before .before .before .before .before .if1 .left) refl (c .ended3 .ensures)
 
 sub-word-of : tie.Need-sub-word-of
 sub-word-of c = search needs
@@ -72,8 +75,7 @@ same-length-5 c = search needs
 
 returns-5 : tie.Need-returns-5
 returns-5 c =
-    let a = c .before .before .before .before .before .before .before .before .before .before .before .before .before .before .before .before .before .before .before .before .before .before .before .args in
-    taken-as (a .s) (a .word .now) (a .numbers .now) (a .setup .now) (a .call .now) (a .cells .now) (a .want .now) _ (c .before .before .before .before .before .before .before .before .before .before .before .before .before .word-of .result) (c .before .before .before .before .before .before .before .before .before .before .before .before .before .before .before .before .before .if2 .left) (simp sub-zero at (c .before .before .before .before .before .before .before .before .before .before .before .before .before .word-of .ensures)) (simp sub-zero at (c .before .before .before .before .before .before .act .ensures))
+    acts {k = c .before .before .before .before .before .before .before .before .before .before .before .before .before .word-of .result} (c .before .before .before .before .before .before .before .before .before .before .before .before .before .before .before .before .before .if2 .left) (simp sub-zero at (c .before .before .before .before .before .before .before .before .before .before .before .before .before .word-of .ensures)) (simp sub-zero at (c .before .before .before .before .before .before .act .ensures))
 
 pub take-line-spec : {M : Type 1} → statement M
 take-line-spec =
