@@ -8,22 +8,10 @@ mod write;
 ghost use mathlib.Core.Path.{_≡_};
 ghost use Prim.Native.Nat.{_≤_};
 ghost use lib.ListN.{length};
+ghost use Rattle.show_field.specs.Asked.{asked};
 use frame::Frame;
 use libc::STDIN_FILENO;
 use problems::Problem;
-
-// Is the argument the word?
-fn is_word(arg: &[u8], word: &[u8]) -> bool {
-    if arg.len() != word.len() {
-        return false;
-    }
-    for i in 0..arg.len() {
-        if arg[i] != word[i] {
-            return false;
-        }
-    }
-    true
-}
 
 enum Wanted {
     Text,
@@ -31,23 +19,30 @@ enum Wanted {
     Usage,
 }
 
-fn asked() -> Wanted {
-    let count = os::arg_count();
+// What the program is asked for: by count arguments, its own name among them, the first behind it arg.
+fn wanted_of(count: usize, arg: &[u8]) -> Wanted
+    ensures { λ r. ⌜ r ≡ asked count (now (arg .entry)) ⌝ }
+{
     if count < 2 {
         return Wanted::Text;
     }
     if 2 < count {
         return Wanted::Usage;
     }
-    let mut arg = [0u8; 16];
-    let n = os::arg(1, &mut arg);
-    if is_word(&arg[..n], b"text") {
+    if check::same(arg, b"text") {
         return Wanted::Text;
     }
-    if is_word(&arg[..n], b"picture") {
+    if check::same(arg, b"picture") {
         return Wanted::Picture;
     }
     Wanted::Usage
+}
+
+// Of an argument that is missing, or longer than 16 bytes, os::arg makes an empty one, which is no word.
+fn asked() -> Wanted {
+    let mut arg = [0u8; 16];
+    let n = os::arg(1, &mut arg);
+    wanted_of(os::arg_count(), &arg[..n])
 }
 
 // The file's rest, behind its head: the ends of n tile columns, and the planes.

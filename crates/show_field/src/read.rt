@@ -1,4 +1,6 @@
 // Reading a frame file's parts from standard input.
+ghost use mathlib.Core.Bool.{true, false};
+ghost use mathlib.Core.Path.{_≡_};
 ghost use Prim.Native.Nat.{_+_, _*_, _≤_};
 ghost use lib.ListN.{length};
 use libc::STDIN_FILENO;
@@ -11,7 +13,7 @@ fn read_front(buf: &mut [u8], n: usize) -> bool
 }
 
 pub fn count(b: u8) -> usize
-    ensures { λ r. ⌜ r ≤ 255 ⌝ }
+    ensures { λ r. ⌜ (r ≡ b) × (r ≤ 255) ⌝ }
 {
     b as usize
 }
@@ -63,7 +65,7 @@ fn read_plane(
     true
 }
 
-// A plane that the file has, or none.
+// A plane that the file has, or none: then nothing is read.
 fn read_if(
     here: bool,
     line: &mut [u8],
@@ -74,6 +76,7 @@ fn read_if(
     planes: &mut [i8],
 ) -> bool
     requires { ⌜ (6 * wide ≤ length (now line)) × (wide ≤ stride) × (stride ≤ 256) × (high ≤ 256) × (at + 6 * (high * stride) ≤ length (now planes)) ⌝ }
+    ensures { λ r. ⌜ (here ≡ false → (r ≡ true) × (now (line .exit) ≡ now (line .entry)) × (now (planes .exit) ≡ now (planes .entry))) ⌝ }
 {
     if !here {
         return true;

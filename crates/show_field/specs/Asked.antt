@@ -1,0 +1,30 @@
+-- What the program's arguments ask for (docs/FRAME_FILE.md). What the arguments are, no definition can say. Assumes nothing.
+use mathlib.Core.Bool.{Bool, true, false, cond, _&&_}
+use mathlib.Core.List.{List, [], _∷_}
+use Prim.Native.Nat.{ℕ}
+use lib.Dec.{ltb, eqb}
+use Rattle.show_field.specs.declared.Wanted.{Wanted}
+use Rattle.show_field.specs.declared.Wanted.the-variants.{Text, Picture, Usage}
+
+-- the words, in ASCII: text, picture
+unfoldable pub textWord : List ℕ
+textWord = 116 ∷ 101 ∷ 120 ∷ 116 ∷ []
+
+unfoldable pub pictureWord : List ℕ
+pictureWord = 112 ∷ 105 ∷ 99 ∷ 116 ∷ 117 ∷ 114 ∷ 101 ∷ []
+
+-- are the words the same?
+unfoldable pub isWord : List ℕ → List ℕ → Bool
+isWord [] [] = true
+isWord [] (y ∷ b) = false
+isWord (x ∷ a) [] = false
+isWord (x ∷ a) (y ∷ b) = eqb x y && isWord a b
+
+-- what count arguments ask for, the program's own name among them, the first behind it arg: none is for text, and more than one for the usage
+unfoldable pub asked : ℕ → List ℕ → Wanted
+asked count arg =
+    cond (ltb count 2) Text
+    (cond (ltb 2 count) Usage
+    (cond (isWord arg textWord) Text
+    (cond (isWord arg pictureWord) Picture
+    Usage)))
