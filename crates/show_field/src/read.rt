@@ -3,6 +3,7 @@ ghost use mathlib.Core.Bool.{true, false};
 ghost use mathlib.Core.Path.{_≡_};
 ghost use Prim.Native.Nat.{_+_, _*_, _≤_};
 ghost use lib.ListN.{length};
+ghost use Rattle.show_field.specs.Planes.{OnlyAt, OnlyThere};
 use libc::STDIN_FILENO;
 
 // Reads the first n bytes of buf; false where the input is too short.
@@ -32,12 +33,14 @@ pub fn read_ends(bytes: &mut [u8], n: usize, ends: &mut [usize]) -> bool
 // A row of n bytes goes to its place in the planes.
 fn put_line(line: &[u8], n: usize, planes: &mut [i8], at: usize)
     requires { ⌜ (n ≤ length (now line)) × (at + n ≤ length (now planes)) ⌝ }
+    ensures { λ _. ⌜ OnlyAt at n (now (planes .entry)) (now (planes .exit)) ⌝ }
 {
     framefile::put_row(&line[..n], planes, at);
 }
 
 fn read_line(line: &mut [u8], n: usize, planes: &mut [i8], at: usize) -> bool
     requires { ⌜ (n ≤ length (now line)) × (at + n ≤ length (now planes)) ⌝ }
+    ensures { λ _. ⌜ OnlyAt at n (now (planes .entry)) (now (planes .exit)) ⌝ }
 {
     if !read_front(line, n) {
         return false;
@@ -56,6 +59,7 @@ fn read_plane(
     planes: &mut [i8],
 ) -> bool
     requires { ⌜ (6 * wide ≤ length (now line)) × (wide ≤ stride) × (stride ≤ 256) × (high ≤ 256) × (at + 6 * (high * stride) ≤ length (now planes)) ⌝ }
+    ensures { λ _. ⌜ OnlyAt at (6 * (high * stride)) (now (planes .entry)) (now (planes .exit)) ⌝ }
 {
     for y in 0..high {
         if !read_line(line, 6 * wide, planes, at + 6 * (y * stride)) {
@@ -77,6 +81,7 @@ fn read_if(
 ) -> bool
     requires { ⌜ (6 * wide ≤ length (now line)) × (wide ≤ stride) × (stride ≤ 256) × (high ≤ 256) × (at + 6 * (high * stride) ≤ length (now planes)) ⌝ }
     ensures { λ r. ⌜ (here ≡ false → (r ≡ true) × (now (line .exit) ≡ now (line .entry)) × (now (planes .exit) ≡ now (planes .entry))) ⌝ }
+    ensures { λ _. ⌜ OnlyAt at (6 * (high * stride)) (now (planes .entry)) (now (planes .exit)) ⌝ }
 {
     if !here {
         return true;
@@ -94,6 +99,7 @@ pub fn read_planes(
     planes: &mut [i8],
 ) -> bool
     requires { ⌜ (6 * wide ≤ length (now line)) × (wide ≤ stride) × (stride ≤ 256) × (high ≤ 256) × (2752512 ≤ length (now planes)) ⌝ }
+    ensures { λ _. ⌜ OnlyThere present (6 * (high * stride)) (now (planes .entry)) (now (planes .exit)) ⌝ }
 {
     let size = 6 * (high * stride);
     for k in 0..7 {

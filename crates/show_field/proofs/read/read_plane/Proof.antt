@@ -1,22 +1,24 @@
--- `show_field::read::read_plane` is safe and ends. Assumes nothing.
-use mathlib.Core.Path.{_≡_}
-use Prim.Native.Nat.{_-_}
+-- `show_field::read::read_plane` meets its contract. Assumes nothing.
+use mathlib.Core.Path.{_≡_, refl}
+use Prim.Native.Nat.{_-_, _*_}
 use lib.ListN.{length}
 use Rattle.loops.proofs.Turns.{row-within}
+use Rattle.show_field.specs.Planes.{OnlyAt}
 use Rattle.show_field.proofs.Bounds.{cells-low}
+use Rattle.show_field.proofs.Planes.{none-only, more-only}
 use borrow.Author.Needs.{needs}
 use native.Mathlib.Omega.{arith}
 use Rattle.show_field.proofs.read.read_plane.Statement.{statement}
 use Rattle.show_field.proofs.read.read_plane.Tie as tie
 
 abbrev Inv-loop : tie.InvT-loop
-Inv-loop line₀ wide high stride at planes₀ y₀ line planes y = (length line ≡ length line₀) × (length planes ≡ length planes₀)
+Inv-loop line₀ wide high stride at planes₀ y₀ line planes y = (length line ≡ length line₀) × (length planes ≡ length planes₀) × OnlyAt at (6 * (high * stride)) planes₀ planes
 
 abbrev μ-loop : tie.MeasureT-loop
 μ-loop line₀ wide high stride at planes₀ y₀ line planes y = high - y
 
 loop-holds : tie.Need-loop-holds Inv-loop μ-loop
-loop-holds c = search needs
+loop-holds c = (refl, refl, none-only _ _ _)
 
 mul-read-line : tie.Need-mul-read-line Inv-loop μ-loop
 mul-read-line c = search needs
@@ -48,7 +50,11 @@ same-length-2 : tie.Need-same-length-2 Inv-loop μ-loop
 same-length-2 c = search needs
 
 returns : tie.Need-returns Inv-loop μ-loop
-returns c = search needs
+returns c =
+    let l = c .before .before .before .before .before .before .before in
+    let s = l .before .before .before in
+    let w = row-within (l .before .loop .y) (s .args .high) (s .args .stride) (l .loop-test .taken) in
+    more-only (omega arith) (omega (arith, w)) (l .before .loop .inv .2) (c .before .before .before .before .read-line .ensures)
 
 add-y : tie.Need-add-y Inv-loop μ-loop
 add-y c = search needs
@@ -57,7 +63,11 @@ loop-less : tie.Need-loop-less Inv-loop μ-loop
 loop-less c = search needs
 
 loop-again : tie.Need-loop-again Inv-loop μ-loop
-loop-again c = search needs
+loop-again c =
+    let l = c .before .before .before .before .before .before .before in
+    let s = l .before .before .before in
+    let w = row-within (l .before .loop .y) (s .args .high) (s .args .stride) (l .loop-test .taken) in
+    (search needs, search needs, more-only (omega arith) (omega (arith, w)) (l .before .loop .inv .2) (c .before .before .before .before .read-line .ensures))
 
 same-length-3 : tie.Need-same-length-3 Inv-loop μ-loop
 same-length-3 c = search needs
@@ -66,7 +76,7 @@ same-length-4 : tie.Need-same-length-4 Inv-loop μ-loop
 same-length-4 c = search needs
 
 returns-2 : tie.Need-returns-2 Inv-loop μ-loop
-returns-2 c = search needs
+returns-2 c = c .before .loop .inv .2
 
 pub read-plane-spec : {M : Type 1} → statement M
 read-plane-spec =
