@@ -25,9 +25,9 @@ pub row-only : {n : ℕ} (line : List ℕ) (at : ℕ) (planes : List ℤ) → le
 unfolding rowPut span
 row-only line at planes e = record { same = λ i h. keeps (putting line at) i _ 0 planes (λ q t b. getD-set-other t (at + q) i _ _ (λ d. let l = h (omega arith) in absurd (omega arith))) }
 
--- a further change within the same places
-pub more-only : {a n b m : ℕ} {x y z : List ℤ} → a ≤ b → b + m ≤ a + n → OnlyAt a n x y → OnlyAt b m y z → OnlyAt a n x z
-more-only p q f g = record { same = λ i h. g .same i (λ l. let k = h (omega arith) in omega arith) ∙ f .same i h }
+-- a further row, within the places of its plane
+pub more-only : {x y z : List ℤ} (at r rows stride wide : ℕ) → r < rows → wide ≤ stride → OnlyAt at (6 * (rows * stride)) x y → OnlyAt (at + 6 * (r * stride)) (6 * wide) y z → OnlyAt at (6 * (rows * stride)) x z
+more-only at r rows stride wide b w f g = record { same = λ i h. g .same i (λ l. let k = h (omega arith) in omega (arith, row-within r rows stride b)) ∙ f .same i h }
 
 -- nothing is read
 pub none-only : (at n : ℕ) (x : List ℤ) → OnlyAt at n x x

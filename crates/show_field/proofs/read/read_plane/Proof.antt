@@ -52,9 +52,7 @@ same-length-2 c = search needs
 returns : tie.Need-returns Inv-loop μ-loop
 returns c =
     let l = c .before .before .before .before .before .before .before in
-    let s = l .before .before .before in
-    let w = row-within (l .before .loop .y) (s .args .high) (s .args .stride) (l .loop-test .taken) in
-    more-only (omega arith) (omega (arith, w)) (l .before .loop .inv .2) (c .before .before .before .before .read-line .ensures)
+    more-only _ _ _ _ _ (l .loop-test .taken) (l .before .before .before .pre .1) (l .before .loop .inv .2) (c .before .before .before .before .read-line .ensures)
 
 add-y : tie.Need-add-y Inv-loop μ-loop
 add-y c = search needs
@@ -65,9 +63,7 @@ loop-less c = search needs
 loop-again : tie.Need-loop-again Inv-loop μ-loop
 loop-again c =
     let l = c .before .before .before .before .before .before .before in
-    let s = l .before .before .before in
-    let w = row-within (l .before .loop .y) (s .args .high) (s .args .stride) (l .loop-test .taken) in
-    (search needs, search needs, more-only (omega arith) (omega (arith, w)) (l .before .loop .inv .2) (c .before .before .before .before .read-line .ensures))
+    (search needs, search needs, more-only _ _ _ _ _ (l .loop-test .taken) (l .before .before .before .pre .1) (l .before .loop .inv .2) (c .before .before .before .before .read-line .ensures))
 
 same-length-3 : tie.Need-same-length-3 Inv-loop μ-loop
 same-length-3 c = search needs
