@@ -1,2 +1,4 @@
+pub mod Accepted
 pub mod Asked
 pub mod Planes
+pub mod Problems

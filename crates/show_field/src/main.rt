@@ -8,6 +8,7 @@ mod write;
 ghost use mathlib.Core.Path.{_≡_};
 ghost use Prim.Native.Nat.{_≤_};
 ghost use lib.ListN.{length};
+ghost use Rattle.show_field.specs.Accepted.{Accepted};
 ghost use Rattle.show_field.specs.Asked.{asked};
 use frame::Frame;
 use libc::STDIN_FILENO;
@@ -201,7 +202,7 @@ fn show_rest(
 }
 
 fn show(head: &[u8; 103], f: Frame, picture: bool) -> Problem
-    requires { ⌜ (f .width ≤ 2048) × (f .height ≤ 2048) ⌝ }
+    requires { ⌜ Accepted (now head) f × (f .width ≤ 2048) × (f .height ≤ 2048) ⌝ }
 {
     let mut line = [0u8; 14592];
     let mut ends = [0usize; 255];

@@ -1,4 +1,6 @@
 // Why a file cannot be shown, and the line that says so.
+ghost use mathlib.Core.Path.{_≡_};
+ghost use Rattle.show_field.specs.Problems.{isOne};
 use checks::LoadAnswer;
 use frame::Said;
 use libc::STDERR_FILENO;
@@ -15,7 +17,9 @@ pub enum Problem {
     Load(LoadAnswer),
 }
 
-pub fn is_one(p: Problem) -> bool {
+pub fn is_one(p: Problem) -> bool
+    ensures { λ r. ⌜ r ≡ isOne p ⌝ }
+{
     match p {
         Problem::Nothing => false,
         Problem::Usage => true,
