@@ -1,13 +1,13 @@
 -- Laws of verdicts, and of numbers within their fields. Assumes nothing.
-use mathlib.Core.Bool.{Bool, true, false, not}
-use mathlib.Core.Path.{_≡_, refl}
+use mathlib.Core.Bool.{Bool, true, false, not, true≢false}
+use mathlib.Core.Path.{_≡_, refl, sym, _∙_}
 use lib.IntN.{ℤ}
 use lib.Signed.{ltZ}
 use borrow.Author.Tests.{not-false}
 use Rattle.intops.proofs.Signed.{signed}
 use Rattle.intops.specs.Choice.{pickZ, clipZ}
 use Rattle.cases.specs.Numbers.{Inside}
-use Rattle.cases.specs.Verdicts.{WhenTrue, Decides, WhenAgrees}
+use Rattle.cases.specs.Verdicts.{WhenTrue, WhenAgrees}
 use Rattle.cases.specs.declared.Verdict.{Verdict}
 use Rattle.cases.specs.declared.Verdict.the-variants.{Agrees, Differs, NotACase}
 
@@ -22,10 +22,9 @@ pub when-true : (b : Bool) {p q : Type 0} → (p → q) → WhenTrue b p → Whe
 when-true true f h = f h
 when-true false f h = tt
 
--- a test that decides p decides what is equivalent to it
-pub decides : (b : Bool) {p q : Type 0} → (p → q) → (q → p) → Decides b p → Decides b q
-decides true f g h = f h
-decides false f g h = λ x. h (g x)
+-- a test that is true where p holds, and is false: p does not hold
+pub told-false : {b : Bool} {p : Type 0} → (p → b ≡ true) → b ≡ false → p → ⊥
+told-false f e h = true≢false (sym (f h) ∙ e)
 
 -- past a test whose negation was false
 pub passed : (b : Bool) {p : Type 0} → not b ≡ false → WhenTrue b p → p

@@ -8,11 +8,6 @@ abbrev pub WhenTrue : Bool → Type 0 → Type 0
 WhenTrue true p = p
 WhenTrue false p = Unit {0}
 
--- the test is true where p holds, and only there
-abbrev pub Decides : Bool → Type 0 → Type 0
-Decides true p = p
-Decides false p = p → ⊥
-
 -- p holds where the verdict is that the case agrees
 abbrev pub WhenAgrees : Verdict → Type 0 → Type 0
 WhenAgrees Agrees p = p

@@ -5,7 +5,7 @@ ghost use Prim.Native.Nat.{_≤_};
 ghost use lib.IntN.{pos, negsuc, natAbs};
 ghost use lib.ListN.{length};
 ghost use Rattle.cases.specs.Numbers.{Inside, Is32, AllInside, isOn};
-ghost use Rattle.cases.specs.Verdicts.{WhenTrue, Decides, WhenAgrees};
+ghost use Rattle.cases.specs.Verdicts.{WhenTrue, WhenAgrees};
 
 pub enum Verdict {
     Agrees,
@@ -123,18 +123,4 @@ pub fn of_i32(v: i32) -> i64
     ensures { λ r. ⌜ r ≡ v ⌝ }
 {
     v as i64
-}
-
-pub fn same_u8s(a: &[u8], b: &[u8]) -> bool
-    ensures { λ r. ⌜ Decides r (now (a .entry) ≡ now (b .entry)) ⌝ }
-{
-    if a.len() != b.len() {
-        return false;
-    }
-    for i in 0..a.len() {
-        if a[i] != b[i] {
-            return false;
-        }
-    }
-    true
 }

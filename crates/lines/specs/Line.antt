@@ -248,8 +248,8 @@ pub data Reads : ℕ → List ℕ → Reader → Reader → Type 0 where
 
 -- ---- what is written into lent buffers
 
--- the first r bytes of out are those of the word, the others stay
-abbrev pub putIn : ℕ → List ℕ → List ℕ → List ℕ
+-- the first r elements of out are those of the word, the others stay
+abbrev pub putIn : {A : Type 0} → ℕ → List A → List A → List A
 putIn r word out = take r word ++ drop r out
 
 -- one more in the tally of a kind; a kind that has none changes nothing

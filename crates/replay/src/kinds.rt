@@ -1,10 +1,11 @@
 // The kinds of cases: a new one has a number, a name of at most 16 letters and an arm here, and a
 // function in a crate of cases. There is room for 31 tallies.
+ghost use mathlib.Core.Bool.{true};
 ghost use mathlib.Core.Path.{_≡_};
 ghost use Prim.Native.Nat.{ℕ, _≤_, _<_, min};
 ghost use lib.ListN.{length};
 ghost use Rattle.io.specs.Counts.{Counts};
-ghost use Rattle.cases.specs.Verdicts.{Decides, WhenAgrees};
+ghost use Rattle.cases.specs.Verdicts.{WhenAgrees};
 ghost use Rattle.lines.specs.Line.{putIn};
 ghost use Rattle.replay.specs.Kinds.{name, Holds, agreed};
 use cases::Verdict;
@@ -65,11 +66,11 @@ pub fn judge(kind: usize, numbers: &[i64]) -> Verdict
 }
 
 fn is_name(kind: usize, word: &[u8]) -> bool
-    ensures { λ r. ⌜ Decides r (now (word .entry) ≡ name kind) ⌝ }
+    ensures { λ r. ⌜ (r ≡ true → now (word .entry) ≡ name kind) × (now (word .entry) ≡ name kind → r ≡ true) ⌝ }
 {
     let mut name = [0u8; 16];
     let n = put_name(kind, &mut name);
-    cases::same_u8s(word, &name[..n])
+    check::same(word, &name[..n])
 }
 
 // The kind that has this name, or NONE.

@@ -2,14 +2,11 @@
 use mathlib.Core.Bool.{Bool, true, false, not, cond, _&&_}
 use mathlib.Core.List.{List}
 use mathlib.Core.Path.{_≡_, refl, _∙_}
-use Prim.Native.Nat.{ℕ, zero, suc, _+_, _≤_, _<_}
-use native.Mathlib.Nat.{zero-add}
-use native.Mathlib.Numerals.{add-one}
+use Prim.Native.Nat.{ℕ, zero, suc, _≤_, _<_}
 use native.Mathlib.Omega.{arith}
 use lib.Dec.{eqb}
 use lib.IntN.{ℤ, pos, natAbs}
-use lib.ListN.{length, set, take, List·getD-eq-default}
-use lib.Seq.{paste-suc}
+use lib.ListN.{length, take, List·getD-eq-default}
 use borrow.Author.Tests.{eqb-true, eqb-false}
 use Rattle.intops.specs.Choice.{eqZ}
 use Rattle.cases.specs.declared.Verdict.{Verdict}
@@ -19,7 +16,7 @@ use Rattle.cases.specs.Verdicts.{WhenTrue, WhenAgrees}
 use Rattle.kept_cases.specs.KeptCase.{CaseAgrees}
 use Rattle.replay_loads.specs.declared.book.Book.{Book}
 use Rattle.replay_loads.specs.Words.{names, name, Numbered}
-use Rattle.replay_loads.specs.Calls.{put, copied, differs, notALine, kindOf, left, tallied, MayCheck, Checked, counts, stops, Acted}
+use Rattle.replay_loads.specs.Calls.{copied, differs, notALine, kindOf, left, tallied, MayCheck, Checked, counts, stops, Acted}
 
 -- the number of one of the six words
 pub is-word : {w : List ℕ} (k : ℕ) → 0 < k → k ≤ 6 → w ≡ name k → Numbered w k
@@ -38,11 +35,6 @@ none-of h1 h2 h3 h4 h5 h6 (suc (suc (suc (suc (suc (suc (suc k))))))) a b e = om
 
 pub is-none : {w : List ℕ} → (w ≡ name 1 → ⊥) → (w ≡ name 2 → ⊥) → (w ≡ name 3 → ⊥) → (w ≡ name 4 → ⊥) → (w ≡ name 5 → ⊥) → (w ≡ name 6 → ⊥) → Numbered w 0
 is-none h1 h2 h3 h4 h5 h6 = record { named = λ h. absurd (omega arith); few = omega arith; none = λ z. none-of h1 h2 h3 h4 h5 h6 }
-
--- ---- the numbers of a line
-
-pub put-more : (n to : List ℤ) (i : ℕ) → i < length to → i < length n → set (put i n to) i (at n i) ≡ put (i + 1) n to
-put-more n to i h k = rw add-one (simp zero-add at (paste-suc to 0 n i (pos 0) (omega arith) k))
 
 -- ---- the answer of a call
 

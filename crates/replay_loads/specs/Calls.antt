@@ -1,26 +1,23 @@
 -- What replay_loads makes of a line: a call is counted only if a `check` line finds that it agrees. Assumes nothing.
 use mathlib.Core.Bool.{Bool, cond, _&&_}
-use mathlib.Core.List.{List, _++_}
+use mathlib.Core.List.{List}
 use mathlib.Core.Path.{_≡_}
 use Prim.Native.Nat.{ℕ, _<_, min}
 use lib.Dec.{eqb}
 use lib.IntN.{ℤ, pos, natAbs}
-use lib.ListN.{length, take, drop}
+use lib.ListN.{length, take}
 use Rattle.cases.specs.declared.Verdict.{Verdict}
 use Rattle.cases.specs.declared.Verdict.the-variants.{Agrees, Differs, NotACase}
 use Rattle.cases.specs.Numbers.{at, isOn, Inside}
 use Rattle.lines.specs.declared.State.{State}
-use Rattle.lines.specs.Line.{line, allRead, countedUp}
+use Rattle.lines.specs.Line.{line, allRead, putIn, countedUp}
 use Rattle.kept_cases.specs.KeptCase.{CaseAgrees}
 use Rattle.replay_loads.specs.declared.book.Book.{Book}
 use Rattle.replay_loads.specs.Words.{Numbered}
 
--- the first k of the numbers n put at the front of a list; and as many as fit
-abbrev pub put : ℕ → List ℤ → List ℤ → List ℤ
-put k n to = take k n ++ drop k to
-
+-- the numbers n put at the front of a list, as many as fit
 abbrev pub copied : List ℤ → List ℤ → List ℤ
-copied n to = put (min (length n) (length to)) n to
+copied n to = putIn (min (length n) (length to)) n to
 
 -- how the run has ended, if it has; 4 is that a list has no room
 abbrev pub allTaken : ℕ
@@ -80,14 +77,14 @@ tallied Agrees kind t = countedUp kind t
 tallied Differs kind t = t
 tallied NotACase kind t = t
 
--- a `check` line with the numbers n may stand here
+-- a `check` line with the numbers n may stand here: its one number, where it is not negative, is how many elements were named as changed
 pub record MayCheck (b : Book) (n : List ℤ) : Type 0 where
   pub one : length n ≡ 1
   pub called : b .call ≡ 0 → ⊥
   pub isSetUp : b .setup ≡ 0 → ⊥
   pub allNamed : Inside (pos 0) (pos 9223372036854775807) (at n 0) → b .changed ≡ natAbs (at n 0)
 
--- what a `check` line leaves: the call has agreed and is counted, and the lists are the wanted ones; or the run ends, and nothing is
+-- what a `check` line leaves: the call has agreed and is counted, and the lists are the wanted ones; or the run ends, and nothing is counted
 pub data Checked (b : Book) (n setup call cells want left : List ℤ) (before after : List ℕ) (r : Book) : Type 0 where
   counts : MayCheck b n → CaseAgrees (b .lengths) cells want setup (take (b .call) call) → after ≡ countedUp (kindOf call) before → left ≡ copied want cells → r ≡ checked b → Checked b n setup call cells want left before after r
   stops : {why : ℕ} → 0 < why → after ≡ before → r ≡ ended why b → Checked b n setup call cells want left before after r

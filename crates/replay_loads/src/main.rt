@@ -44,22 +44,22 @@ const REFUSED: usize = 1;
 fn word_of(word: &[u8]) -> usize
     ensures { λ r. ⌜ Numbered (now (word .entry)) r ⌝ }
 {
-    if cases::same_u8s(word, b"case") {
+    if check::same(word, b"case") {
         return CASE;
     }
-    if cases::same_u8s(word, b"setup") {
+    if check::same(word, b"setup") {
         return SETUP;
     }
-    if cases::same_u8s(word, b"set") {
+    if check::same(word, b"set") {
         return SET;
     }
-    if cases::same_u8s(word, b"call") {
+    if check::same(word, b"call") {
         return CALL;
     }
-    if cases::same_u8s(word, b"changed") {
+    if check::same(word, b"changed") {
         return CHANGED;
     }
-    if cases::same_u8s(word, b"check") {
+    if check::same(word, b"check") {
         return CHECK;
     }
     0

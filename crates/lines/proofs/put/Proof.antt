@@ -45,7 +45,7 @@ loop-again c =
       simp length-set (omega arith),
       simp length-set (omega arith),
       omega arith,
-      ap (λ (o : List ℕ). set o (l .i) (getD w (l .i) 0)) (l .inv .3) ∙ put-more w (c .before .before .before .before .args .out .now) (l .i) (omega arith) (omega arith),
+      ap (λ (o : List ℕ). set o (l .i) (getD w (l .i) 0)) (l .inv .3) ∙ put-more 0 w (c .before .before .before .before .args .out .now) (l .i) (omega arith) (omega arith),
     )
 
 same-length-2 : tie.Need-same-length-2 Inv-loop μ-loop

@@ -1,7 +1,6 @@
 -- `replay::kinds::is_name` meets its contract. Assumes nothing.
 use mathlib.Core.Path.{_≡_, _∙_, sym}
 use borrow.Author.Needs.{needs}
-use Rattle.cases.proofs.Verdicts.{decides}
 use Rattle.replay.specs.Kinds.{name}
 use Rattle.replay.proofs.Laws.{few-letters, front-is}
 use Rattle.replay.proofs.kinds.is_name.Statement.{statement}
@@ -16,18 +15,18 @@ put-name-requires c κs = search needs
 array-share-prefix-name : tie.Need-array-share-prefix-name
 array-share-prefix-name c = search needs
 
-slice-aggregate-same-u8s : tie.Need-slice-aggregate-same-u8s
-slice-aggregate-same-u8s c = search needs
+slice-aggregate-same : tie.Need-slice-aggregate-same
+slice-aggregate-same c = search needs
 
-same-u8s-requires : tie.Need-same-u8s-requires
-same-u8s-requires c κs = search needs
+same-requires : tie.Need-same-requires
+same-requires c κs = search needs
 
 returns : tie.Need-returns
 returns c =
     let a = c .before .before .before .before .before .before .args in
     let p = c .before .before .before .put-name .ensures .1 in
     let f = front-is (name (a .kind)) _ (p .0) (few-letters (a .kind)) (p .1) in
-    decides (c .same-u8s .result) (λ e. e ∙ f) (λ e. e ∙ sym f) (c .same-u8s .ensures)
+    let s = c .same .ensures in (λ e. s .0 e ∙ f, λ e. s .1 (e ∙ sym f))
 
 pub is-name-spec : {M : Type 1} → statement M
 is-name-spec =
@@ -36,6 +35,6 @@ is-name-spec =
     slice-aggregate-put-name
     put-name-requires
     array-share-prefix-name
-    slice-aggregate-same-u8s
-    same-u8s-requires
+    slice-aggregate-same
+    same-requires
     returns)

@@ -3,6 +3,7 @@ use mathlib.Core.Path.{_≡_}
 use Prim.Native.Nat.{ℕ, _≤_, _<_}
 use native.Mathlib.Omega.{arith}
 use borrow.Author.Needs.{needs}
+use Rattle.cases.proofs.Verdicts.{told-false}
 use Rattle.replay.specs.Kinds.{name}
 use Rattle.replay.proofs.Laws.{none-from}
 use Rattle.replay.proofs.kinds.kind_of.Statement.{statement}
@@ -21,7 +22,7 @@ is-name-requires : tie.Need-is-name-requires Inv-loop μ-loop
 is-name-requires c κs = search needs
 
 returns : tie.Need-returns Inv-loop μ-loop
-returns c = (λ h. rw (c .if1 .taken) at (c .before .is-name .ensures), λ e. absurd (omega arith))
+returns c = (λ h. c .before .is-name .ensures .0 (c .if1 .taken), λ e. absurd (omega arith))
 
 sub-kind : tie.Need-sub-kind Inv-loop μ-loop
 sub-kind c = search needs
@@ -30,7 +31,7 @@ loop-less : tie.Need-loop-less Inv-loop μ-loop
 loop-less c = search needs
 
 loop-again : tie.Need-loop-again Inv-loop μ-loop
-loop-again c = none-from _ (c .before .before .before .loop .inv) (rw (c .if1 .left) at (c .before .is-name .ensures))
+loop-again c = none-from _ (c .before .before .before .loop .inv) (told-false (c .before .is-name .ensures .1) (c .if1 .left))
 
 returns-2 : tie.Need-returns-2 Inv-loop μ-loop
 returns-2 c = (λ h. absurd (omega arith), λ z k h l e. c .before .loop .inv k (omega arith) l e)

@@ -5,18 +5,18 @@ use Prim.Native.Nat.{_-_, _≤_, min}
 use native.Mathlib.Omega.{arith}
 use mir.Syntax.{w64}
 use mir.Val.{SFits}
-use lib.IntN.{ℤ}
+use lib.IntN.{ℤ, pos}
 use lib.ListN.{length, set, length-set}
 use Rattle.intops.proofs.Signed.{back}
 use Rattle.cases.specs.Numbers.{at}
 use borrow.Author.Needs.{needs}
-use Rattle.replay_loads.specs.Calls.{put}
-use Rattle.replay_loads.proofs.Laws.{put-more}
+use Rattle.lines.specs.Line.{putIn}
+use Rattle.lines.proofs.Copied.{put-more}
 use Rattle.replay_loads.proofs.lists.copy.Statement.{statement}
 use Rattle.replay_loads.proofs.lists.copy.Tie as tie
 
 abbrev Inv-loop : tie.InvT-loop
-Inv-loop n to₀ i₀ to i = (length to ≡ length to₀) × (i ≤ length to) × (i ≤ length n) × (to ≡ put i n to₀)
+Inv-loop n to₀ i₀ to i = (length to ≡ length to₀) × (i ≤ length to) × (i ≤ length n) × (to ≡ putIn i n to₀)
 
 abbrev μ-loop : tie.MeasureT-loop
 μ-loop n to₀ i₀ to i = length n - i
@@ -56,7 +56,7 @@ loop-again c =
       simp length-set (omega arith),
       simp length-set (omega arith),
       omega arith,
-      simp back (ap (λ (o : List ℤ). set o (l .i) (at n (l .i))) (l .inv .3) ∙ put-more n (c .before .before .before .before .args .to .now) (l .i) (omega arith) (omega arith)),
+      simp back (ap (λ (o : List ℤ). set o (l .i) (at n (l .i))) (l .inv .3) ∙ put-more (pos 0) n (c .before .before .before .before .args .to .now) (l .i) (omega arith) (omega arith)),
     )
 
 same-length-2 : tie.Need-same-length-2 Inv-loop μ-loop
