@@ -1,2 +1,3 @@
 pub mod Field
 pub mod Code
+pub mod Examples
