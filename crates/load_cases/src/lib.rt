@@ -11,7 +11,7 @@ ghost use Rattle.load.specs.Calls.{answer, load};
 ghost use Rattle.cases.specs.Verdicts.{WhenTrue, WhenAgrees};
 ghost use Rattle.load_cases.specs.LoadCase.{askedAt, TileNumbers, callAt, Listed, ListedBytes, StoreListed, CallAgrees};
 
-mod setup;
+pub mod setup;
 
 use cases::Verdict;
 use frame::Frame;

@@ -26,7 +26,7 @@ Ready c s t =
     (Sound t × (c .wholeFrame ≡ false → t .offset ≡ 3 * t .stride) × (6 * (7 * (t .high * t .stride)) ≤ length (c .planes)) × SourcesFine t (c .setup .«rp_ref») (c .planes) (c .setup .sources) × (c .setup .«n_refs» ≤ 7))
     × Held t s
 
-rows-above : (c : Call) → c .wholeFrame ≡ false → tileOf c .offset ≡ 3 * tileOf c .stride
+pub rows-above : (c : Call) → c .wholeFrame ≡ false → tileOf c .offset ≡ 3 * tileOf c .stride
 unfolding tileOf
 rows-above c h = ap (λ (w : Bool). cond w (c .rowStart) 3 * strideOf (c .setup)) h
 

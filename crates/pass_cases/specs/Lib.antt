@@ -1,0 +1,2 @@
+pub mod PassCase
+pub mod Code
