@@ -1,4 +1,4 @@
-//! The kept list of loads: written with the published Rust's answers, and read with no knowledge but its format.
+//! The kept list of loads and passes: written with the published Rust's answers, and read with no knowledge but its format.
 use std::collections::BTreeMap;
 use std::io::{self, BufWriter, Write};
 use std::rc::Rc;
@@ -47,7 +47,7 @@ pub fn write(seed: u64) -> io::Result<()> {
 
 fn head(seed: u64) -> String {
     format!(
-        "# Loads, what the published load leaves in the store, and the scope's refusals, for the program replay.
+        "# Loads, what the published load leaves in the store, and the scope's refusals, for the program replay_loads.
 # Made by `oracle/run loads --keep --seed {seed}` from {SOURCE}.
 # A word and decimal numbers, one space between two; `#` starts a comment line.
 # Eight lists: 0 field y, 1 field x, 2 field reference bytes, 3 trajectories y, 4 trajectories x, 5 maps y,
@@ -272,8 +272,31 @@ struct Reader {
     changed: usize,
 }
 
-/// Hands over each call of the list. A line that is none of the format is a fault.
-pub fn read(text: &str, mut each: impl FnMut(Kept)) -> io::Result<()> {
+/// What a list is read for.
+#[derive(Clone, Copy, PartialEq)]
+pub enum What {
+    Loads,
+    Passes,
+}
+
+/// Hands over the loads of the list, or the passes, and leaves out the others. A list that has none is a fault.
+pub fn read_only(text: &str, what: What, mut each: impl FnMut(Kept)) -> io::Result<()> {
+    let mut some = false;
+    read(text, |kept| {
+        if kept.pass.is_some() == (what == What::Passes) {
+            some = true;
+            each(kept);
+        }
+    })?;
+    match (some, what) {
+        (true, _) => Ok(()),
+        (false, What::Loads) => Err(io::Error::other("the list has no load")),
+        (false, What::Passes) => Err(io::Error::other("the list has no pass")),
+    }
+}
+
+/// Hands over each call and each pass of the list. A line that is none of the format is a fault.
+fn read(text: &str, mut each: impl FnMut(Kept)) -> io::Result<()> {
     let mut reader = Reader {
         lists: Default::default(),
         setup: None,
@@ -454,6 +477,23 @@ mod tests {
             read.unwrap();
             assert!(calls.next().is_none(), "{name}");
         }
+    }
+
+    #[test]
+    fn a_list_is_read_for_one_of_two() {
+        let setup = format!("setup 8 8 0 0 1{}\n", " 0".repeat(166));
+        let case = format!("case 1 2 0 0 0 0 0 0 0\n{setup}");
+        let load = format!("{case}call 0 0 0 0 1 0 1 11\ncheck 0\n");
+        let pass = format!("{case}pass 3{} 1 0 1\ncheck 0\n", " 0".repeat(10));
+        let count = |text: &str, what| {
+            let mut n = 0;
+            read_only(text, what, |_| n += 1).map(|()| n).ok()
+        };
+        let both = format!("{load}{pass}{load}");
+        assert_eq!(count(&both, What::Loads), Some(2));
+        assert_eq!(count(&both, What::Passes), Some(1));
+        assert_eq!(count(&load, What::Passes), None);
+        assert_eq!(count(&pass, What::Loads), None);
     }
 
     #[test]

@@ -9,7 +9,7 @@ use crate::antt::{self, Machine, Own, Value};
 use crate::cases::directed::{self, Directed};
 use crate::cases::load::{self as cases, Case};
 use crate::expected;
-use crate::kept::{self, Kept};
+use crate::kept::{self, Kept, What};
 use crate::load::{Call, MAP_PLANES, SLOTS, Store};
 use crate::reference::{self, EMPTY_Y};
 use crate::rng::Rng;
@@ -103,13 +103,13 @@ pub fn one(seed: u64) -> io::Result<bool> {
     })
 }
 
-/// The calls of a kept list. Tells whether the list, the definition and the published load agree.
+/// The loads of a kept list. Tells whether the list, the definition and the published load agree.
 pub fn kept(file: &str) -> io::Result<bool> {
     let text = fs::read_to_string(file)?;
     antt::with_stack(move || {
         let mut loads = Loads::new(Sides::Both)?;
         let mut last = None;
-        kept::read(&text, |kept| loads.kept(kept, &mut last))?;
+        kept::read_only(&text, What::Loads, |kept| loads.kept(kept, &mut last))?;
         Ok(loads.report())
     })
 }

@@ -9,7 +9,7 @@ use std::rc::Rc;
 use crate::answers::SOURCE;
 use crate::cases::load as cases;
 use crate::entry::Source;
-use crate::kept;
+use crate::kept::{self, What};
 use crate::load::{Call, SLOTS, Store};
 use crate::reference::{EMPTY_Y, Held};
 use crate::rng::Rng;
@@ -447,9 +447,9 @@ const KEPT_PASSES: usize = 6;
 /// So many cases of each pass are kept.
 const KEPT: usize = 4;
 
-const KEPT_HEAD: &str = "# Passes of a load, and what the published pass leaves in the store, for the program replay.
+const KEPT_HEAD: &str = "# Passes of a load, and what the published pass leaves in the store, for the program replay_loads.
 # Made by `oracle/run passes --keep --seed SEED` from SOURCE.
-# The lines are those of the list of loads, with a `pass` line for a `call` line, and no planes:
+# The lines are those of the loads, with a `pass` line for a `call` line, and no planes:
 # pass kind a b y x mv_y mv_x mode trajectories holes column_start column_end row_start row_end: kind 0 copy of the rows
 #   above and emptying, 1 tip_projection, 2 fill_holes, 3 smoothen, 4 fill_gap_proj, 5 fill_gap_traj of every slot,
 #   6 check_traj_intersect of slots a and b for the vector of the block at (y, x); a to mv_x are 0 for the others
@@ -587,23 +587,25 @@ pub fn kept(file: &str) -> io::Result<bool> {
     let text = fs::read_to_string(file)?;
     let mut passes = Passes::default();
     let mut fault = None;
-    kept::read(&text, |kept| match kept.pass.and_then(Kind::of) {
-        None => fault = Some(kept.line),
-        Some(kind) => {
-            let (name, call) = (kind.name(), &kept.call);
-            let line = kept.line as u64;
-            passes.both(
-                name,
-                line,
-                call,
-                &kept.before,
-                |held| kind.published(call, held),
-                |store| kind.library(call, store),
-            );
-            let mut after = kept.before.clone();
-            kind.library(call, &mut after);
-            if after != kept.after {
-                passes.difference(|| print_differing(name, line, call, &after, &kept.after));
+    kept::read_only(&text, What::Passes, |kept| {
+        match kept.pass.and_then(Kind::of) {
+            None => fault = Some(kept.line),
+            Some(kind) => {
+                let (name, call) = (kind.name(), &kept.call);
+                let line = kept.line as u64;
+                passes.both(
+                    name,
+                    line,
+                    call,
+                    &kept.before,
+                    |held| kind.published(call, held),
+                    |store| kind.library(call, store),
+                );
+                let mut after = kept.before.clone();
+                kind.library(call, &mut after);
+                if after != kept.after {
+                    passes.difference(|| print_differing(name, line, call, &after, &kept.after));
+                }
             }
         }
     })?;

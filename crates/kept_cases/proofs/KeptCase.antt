@@ -14,8 +14,8 @@ use Rattle.store.specs.Store.{pack}
 use Rattle.cases.specs.Verdicts.{WhenAgrees}
 use Rattle.cases.specs.declared.Verdict.{Verdict}
 use Rattle.cases.proofs.Verdicts.{when-agrees}
-use Rattle.load_cases.specs.LoadCase.{Listed, ListedBytes, CallAgrees}
-use Rattle.kept_cases.specs.KeptCase.{Are, Copied, CopiedBytes, CaseAgrees}
+use Rattle.load_cases.specs.LoadCase.{Listed, ListedBytes}
+use Rattle.kept_cases.specs.KeptCase.{Are, Copied, CopiedBytes, ListsAgree, CaseAgrees}
 
 pub pos-abs : (z : ℤ) → pos 0 ≤ℤ z → z ≡ pos (natAbs z)
 pos-abs (pos m) h = refl
@@ -59,7 +59,7 @@ lent-long {l} {n} {from} {r} e c = e ∙ sym (length-take-le r l (c .held))
 pub kept : (v : Verdict) (lengths : List ℕ) (want setup n : List ℤ) {cells : List ℤ} {a b c d e f g h : ℕ} {fy fx : List ℤ} {fr : List ℕ} {ty tx my mx pl : List ℤ}
     → Are lengths a b c d e f g h → Copied cells 0 a fy → Copied cells 2048 b fx → CopiedBytes cells 4096 c fr → Copied cells 6144 d ty → Copied cells 13318 e tx
     → Copied cells 20492 f my → Copied cells 42002 g mx → Copied cells 63512 h pl
-    → WhenAgrees v (CallAgrees setup n (take h pl) (pack (take a fy) (take b fx) (take c fr) (take d ty) (take e tx) (take f my) (take g mx)) want)
+    → WhenAgrees v (ListsAgree setup n (take h pl) (pack (take a fy) (take b fx) (take c fr) (take d ty) (take e tx) (take f my) (take g mx)) want)
     → WhenAgrees v (CaseAgrees lengths cells want setup n)
 kept v lengths want setup n {c = c} {fr = fr} l pa pb pc pd pe pf pg ph =
     when-agrees v (λ w. record {

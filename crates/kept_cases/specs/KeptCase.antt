@@ -7,6 +7,7 @@ use lib.ListN.{length, getD}
 use Rattle.store.specs.Store.{Store}
 use Rattle.cases.specs.Numbers.{at}
 use Rattle.load_cases.specs.LoadCase.{Listed, StoreListed, CallAgrees}
+use Rattle.pass_cases.specs.PassCase.{PassAgrees}
 
 -- the first r elements of a list are the numbers from `from` on; and those of a list of bytes
 pub record Copied (n : List ℤ) (from r : ℕ) (l : List ℤ) : Type 0 where
@@ -33,11 +34,16 @@ abbrev pub Long : List ℕ → Store → List ℤ → Type 0
 Long l s planes =
     Are l (length (s .fieldY)) (length (s .fieldX)) (length (s .fieldRef)) (length (s .trajY)) (length (s .trajX)) (length (s .mapY)) (length (s .mapX)) (length planes)
 
--- the lists of the case, of the lengths and with the elements that its lines have set; a load that is lent them agrees
+-- fourteen numbers ask for a pass, any others for a load; the one that is lent these lists agrees
+pub data ListsAgree (setup n planes : List ℤ) (s : Store) (want : List ℤ) : Type 0 where
+  aPass : length n ≡ 14 → PassAgrees setup n s want → ListsAgree setup n planes s want
+  aLoad : (length n ≡ 14 → ⊥) → CallAgrees setup n planes s want → ListsAgree setup n planes s want
+
+-- the lists of the case, of the lengths and with the elements that its lines have set; a load or a pass that is lent them agrees
 pub record CaseAgrees (lengths : List ℕ) (cells want setup n : List ℤ) : Type 0 where
   pub store : Store
   pub planes : List ℤ
   pub long : Long lengths store planes
   pub listed : StoreListed store cells
   pub planesListed : Listed planes cells 63512
-  pub agrees : CallAgrees setup n planes store want
+  pub agrees : ListsAgree setup n planes store want

@@ -1,12 +1,13 @@
-// The judge of a kept case: its lists are made of the numbers that the lines have set, and a load
-// that is lent them is judged.
+// The judge of a kept case: its lists are made of the numbers that the lines have set, and a load or
+// a pass that is lent them is judged.
 ghost use mathlib.Core.Path.{_≡_};
 ghost use Prim.Native.Nat.{ℕ, _+_, _≤_, _<_};
 ghost use lib.IntN.{pos};
 ghost use lib.ListN.{length, getD};
+ghost use Rattle.store.specs.Store.{pack};
 ghost use Rattle.cases.specs.Numbers.{at};
 ghost use Rattle.cases.specs.Verdicts.{WhenTrue, WhenAgrees};
-ghost use Rattle.kept_cases.specs.KeptCase.{Are, Copied, CopiedBytes, CaseAgrees};
+ghost use Rattle.kept_cases.specs.KeptCase.{Are, Copied, CopiedBytes, ListsAgree, CaseAgrees};
 use cases::Verdict;
 use load_cases::FIELD_REF;
 use load_cases::FIELD_X;
@@ -132,6 +133,53 @@ fn are(
     true
 }
 
+// A pass has fourteen numbers, and reads no planes.
+fn judge_lists(
+    field_y: &mut [i32],
+    field_x: &mut [i32],
+    field_ref: &mut [u8],
+    traj_y: &mut [i32],
+    traj_x: &mut [i32],
+    map_y: &mut [i8],
+    map_x: &mut [i8],
+    planes: &[i8],
+    want: &[i64],
+    setup: &[i64],
+    n: &[i64],
+) -> Verdict
+    ensures { λ r. ⌜ WhenAgrees r (ListsAgree (now (setup .entry)) (now (n .entry)) (now (planes .entry))
+        (pack (now («field_y» .entry)) (now («field_x» .entry)) (now («field_ref» .entry)) (now («traj_y» .entry)) (now («traj_x» .entry)) (now («map_y» .entry)) (now («map_x» .entry)))
+        (now (want .entry))) ⌝ }
+{
+    if n.len() == 14 {
+        return pass_cases::judge_pass(
+            field_y,
+            field_x,
+            field_ref,
+            traj_y,
+            traj_x,
+            map_y,
+            map_x,
+            want,
+            setup,
+            n,
+        );
+    }
+    load_cases::judge_call(
+        field_y,
+        field_x,
+        field_ref,
+        traj_y,
+        traj_x,
+        map_y,
+        map_x,
+        planes,
+        want,
+        setup,
+        n,
+    )
+}
+
 // The room is that between the places where the lists begin.
 pub fn judge(lengths: [usize; 8], cells: &[i64], want: &[i64], setup: &[i64], n: &[i64]) -> Verdict
     ensures { λ r. ⌜ WhenAgrees r (CaseAgrees lengths (now (cells .entry)) (now (want .entry)) (now (setup .entry)) (now (n .entry))) ⌝ }
@@ -155,7 +203,7 @@ pub fn judge(lengths: [usize; 8], cells: &[i64], want: &[i64], setup: &[i64], n:
     if !are(lengths, a, b, c, d, e, f, g, h) {
         return Verdict::NotACase;
     }
-    load_cases::judge_call(
+    judge_lists(
         &mut field_y[..a],
         &mut field_x[..b],
         &mut field_ref[..c],

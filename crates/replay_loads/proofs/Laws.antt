@@ -7,7 +7,7 @@ use native.Mathlib.Omega.{arith}
 use lib.Dec.{eqb}
 use lib.IntN.{ℤ, pos, natAbs}
 use lib.ListN.{length, take, List·getD-eq-default}
-use borrow.Author.Tests.{eqb-true, eqb-false}
+use borrow.Author.Tests.{eqb-true, eqb-false, ne-eqb}
 use Rattle.intops.specs.Choice.{eqZ}
 use Rattle.cases.specs.declared.Verdict.{Verdict}
 use Rattle.cases.specs.declared.Verdict.the-variants.{Agrees, Differs, NotACase}
@@ -18,37 +18,42 @@ use Rattle.replay_loads.specs.declared.book.Book.{Book}
 use Rattle.replay_loads.specs.Words.{names, name, Numbered}
 use Rattle.replay_loads.specs.Calls.{copied, differs, notALine, kindOf, left, tallied, MayCheck, Checked, counts, stops, Acted}
 
--- the number of one of the six words
-pub is-word : {w : List ℕ} (k : ℕ) → 0 < k → k ≤ 6 → w ≡ name k → Numbered w k
+-- the number of one of the seven words
+pub is-word : {w : List ℕ} (k : ℕ) → 0 < k → k ≤ 7 → w ≡ name k → Numbered w k
 is-word k a b e = record { named = λ h. e; few = b; none = λ z. absurd (omega arith) }
 
--- a word that is none of the six
-none-of : {w : List ℕ} → (w ≡ name 1 → ⊥) → (w ≡ name 2 → ⊥) → (w ≡ name 3 → ⊥) → (w ≡ name 4 → ⊥) → (w ≡ name 5 → ⊥) → (w ≡ name 6 → ⊥) → (k : ℕ) → 0 < k → k ≤ 6 → w ≡ name k → ⊥
-none-of h1 h2 h3 h4 h5 h6 zero a b e = omega arith
-none-of h1 h2 h3 h4 h5 h6 (suc zero) a b e = h1 e
-none-of h1 h2 h3 h4 h5 h6 (suc (suc zero)) a b e = h2 e
-none-of h1 h2 h3 h4 h5 h6 (suc (suc (suc zero))) a b e = h3 e
-none-of h1 h2 h3 h4 h5 h6 (suc (suc (suc (suc zero)))) a b e = h4 e
-none-of h1 h2 h3 h4 h5 h6 (suc (suc (suc (suc (suc zero))))) a b e = h5 e
-none-of h1 h2 h3 h4 h5 h6 (suc (suc (suc (suc (suc (suc zero)))))) a b e = h6 e
-none-of h1 h2 h3 h4 h5 h6 (suc (suc (suc (suc (suc (suc (suc k))))))) a b e = omega arith
+-- a word that is none of the seven
+none-of : {w : List ℕ} → (w ≡ name 1 → ⊥) → (w ≡ name 2 → ⊥) → (w ≡ name 3 → ⊥) → (w ≡ name 4 → ⊥) → (w ≡ name 5 → ⊥) → (w ≡ name 6 → ⊥) → (w ≡ name 7 → ⊥) → (k : ℕ) → 0 < k → k ≤ 7 → w ≡ name k → ⊥
+none-of h1 h2 h3 h4 h5 h6 h7 zero a b e = omega arith
+none-of h1 h2 h3 h4 h5 h6 h7 (suc zero) a b e = h1 e
+none-of h1 h2 h3 h4 h5 h6 h7 (suc (suc zero)) a b e = h2 e
+none-of h1 h2 h3 h4 h5 h6 h7 (suc (suc (suc zero))) a b e = h3 e
+none-of h1 h2 h3 h4 h5 h6 h7 (suc (suc (suc (suc zero)))) a b e = h4 e
+none-of h1 h2 h3 h4 h5 h6 h7 (suc (suc (suc (suc (suc zero))))) a b e = h5 e
+none-of h1 h2 h3 h4 h5 h6 h7 (suc (suc (suc (suc (suc (suc zero)))))) a b e = h6 e
+none-of h1 h2 h3 h4 h5 h6 h7 (suc (suc (suc (suc (suc (suc (suc zero))))))) a b e = h7 e
+none-of h1 h2 h3 h4 h5 h6 h7 (suc (suc (suc (suc (suc (suc (suc (suc k)))))))) a b e = omega arith
 
-pub is-none : {w : List ℕ} → (w ≡ name 1 → ⊥) → (w ≡ name 2 → ⊥) → (w ≡ name 3 → ⊥) → (w ≡ name 4 → ⊥) → (w ≡ name 5 → ⊥) → (w ≡ name 6 → ⊥) → Numbered w 0
-is-none h1 h2 h3 h4 h5 h6 = record { named = λ h. absurd (omega arith); few = omega arith; none = λ z. none-of h1 h2 h3 h4 h5 h6 }
+pub is-none : {w : List ℕ} → (w ≡ name 1 → ⊥) → (w ≡ name 2 → ⊥) → (w ≡ name 3 → ⊥) → (w ≡ name 4 → ⊥) → (w ≡ name 5 → ⊥) → (w ≡ name 6 → ⊥) → (w ≡ name 7 → ⊥) → Numbered w 0
+is-none h1 h2 h3 h4 h5 h6 h7 = record { named = λ h. absurd (omega arith); few = omega arith; none = λ z. none-of h1 h2 h3 h4 h5 h6 h7 }
 
--- ---- the answer of a call
+-- ---- a pass, and the answer of a call
 
-pub loaded : (n : List ℤ) → eqZ (at n 7) (pos 0) ≡ true → 0 ≡ kindOf n
-unfolding isOn
-loaded n e = rw e refl
+pub a-pass : (k : ℕ) (n : List ℤ) → k ≡ 14 → 2 ≡ kindOf k n
+a-pass k n h = rw h refl
 
-pub refused : (n : List ℤ) → eqZ (at n 7) (pos 0) ≡ false → 1 ≡ kindOf n
-unfolding isOn
-refused n e = rw e refl
+module _ (k : ℕ) (n : List ℤ) (z : k ≡ 14 → ⊥) where
+  pub loaded : eqZ (at n 7) (pos 0) ≡ true → 0 ≡ kindOf k n
+  unfolding isOn
+  loaded e = rw (ne-eqb k 14 z, e) refl
 
-pub short-call : (n : List ℤ) → length n ≤ 7 → 0 ≡ kindOf n
-unfolding isOn
-short-call n h = rw (List·getD-eq-default n (pos 0) h) refl
+  pub refused : eqZ (at n 7) (pos 0) ≡ false → 1 ≡ kindOf k n
+  unfolding isOn
+  refused e = rw (ne-eqb k 14 z, e) refl
+
+  pub short-call : length n ≤ 7 → 0 ≡ kindOf k n
+  unfolding isOn
+  short-call h = rw (ne-eqb k 14 z, List·getD-eq-default n (pos 0) h) refl
 
 -- ---- a `check` line
 
@@ -61,7 +66,7 @@ may-go b n {u} false false true e f g l h = record { one = l; called = eqb-false
 pub may : (b : Book) (n : List ℤ) {u : ℕ} → length n ≡ 1 → (Inside (pos 0) (pos 9223372036854775807) (at n 0) → u ≡ natAbs (at n 0)) → WhenTrue ((not (eqb (b .call) 0) && not (eqb (b .setup) 0)) && eqb (b .changed) u) (MayCheck b n)
 may b n {u} l h = may-go b n (eqb (b .call) 0) (eqb (b .setup) 0) (eqb (b .changed) u) refl refl refl l h
 
-pub checked-as : {b r : Book} {n setup call cells want l : List ℤ} {t after : List ℕ} (v : Verdict) → MayCheck b n → WhenAgrees v (CaseAgrees (b .lengths) cells want setup (take (b .call) call)) → l ≡ copied want cells → (r ≡ left v b) × (after ≡ tallied v (kindOf call) t) → Checked b n setup call cells want l t after r
+pub checked-as : {b r : Book} {n setup call cells want l : List ℤ} {t after : List ℕ} (v : Verdict) → MayCheck b n → WhenAgrees v (CaseAgrees (b .lengths) cells want setup (take (b .call) call)) → l ≡ copied want cells → (r ≡ left v b) × (after ≡ tallied v (kindOf (b .call) call) t) → Checked b n setup call cells want l t after r
 checked-as Agrees m a c j = counts m a (j .1) c (j .0)
 checked-as Differs m a c j = stops {why = differs} (omega arith) (j .1) (j .0)
 checked-as NotACase m a c j = stops {why = notALine} (omega arith) (j .1) (j .0)
@@ -73,9 +78,10 @@ pub other : {b r : Book} {k l : ℕ} {n setup call cells want left : List ℤ} {
 other j e p m x y = record {
   setsUp = λ f. absurd (omega arith);
   begins = λ f. absurd (omega arith);
+  beginsPass = λ f. absurd (omega arith);
   checks = λ f. absurd (omega arith);
   unknown = λ f. absurd (omega arith);
   sameSetup = λ f. refl;
-  sameCall = λ f. refl;
+  sameCall = λ f g. refl;
   uncounted = λ f. refl;
 }

@@ -55,16 +55,16 @@ setUp k b = fields (b .ended) (b .lengths) k (b .call) (b .line) (b .changed)
 abbrev pub begun : ℕ → ℕ → Book → Book
 begun k l b = fields (b .ended) (b .lengths) (b .setup) k l 0
 
--- what a `setup` line of m numbers leaves; and a `call` line, for calls of k numbers
+-- what a `setup` line of m numbers leaves; and a `call` or a `pass` line, for calls of k numbers
 abbrev pub setupLeaves : ℕ → Book → Book
 setupLeaves m b = cond (isFree b) (passed (eqb m 171) (setUp m b)) (ended notALine b)
 
 abbrev pub callLeaves : ℕ → ℕ → ℕ → Book → Book
 callLeaves k l m b = cond (isFree b && eqb m k) (begun k l b) (ended notALine b)
 
--- the answer is the last of a call's eight numbers: 0 is a load, the others are refusals
-abbrev pub kindOf : List ℤ → ℕ
-kindOf n = cond (isOn (at n 7)) 1 0
+-- fourteen numbers are a pass; the answer is the last of a call's eight: 0 is a load, the others are refusals
+abbrev pub kindOf : ℕ → List ℤ → ℕ
+kindOf k n = cond (eqb k 14) 2 (cond (isOn (at n 7)) 1 0)
 
 -- what a verdict leaves of the book and of the tallies
 abbrev pub left : Verdict → Book → Book
@@ -86,17 +86,18 @@ pub record MayCheck (b : Book) (n : List ℤ) : Type 0 where
 
 -- what a `check` line leaves: the call has agreed and is counted, and the lists are the wanted ones; or the run ends, and nothing is counted
 pub data Checked (b : Book) (n setup call cells want left : List ℤ) (before after : List ℕ) (r : Book) : Type 0 where
-  counts : MayCheck b n → CaseAgrees (b .lengths) cells want setup (take (b .call) call) → after ≡ countedUp (kindOf call) before → left ≡ copied want cells → r ≡ checked b → Checked b n setup call cells want left before after r
+  counts : MayCheck b n → CaseAgrees (b .lengths) cells want setup (take (b .call) call) → after ≡ countedUp (kindOf (b .call) call) before → left ≡ copied want cells → r ≡ checked b → Checked b n setup call cells want left before after r
   stops : {why : ℕ} → 0 < why → after ≡ before → r ≡ ended why b → Checked b n setup call cells want left before after r
 
 -- what a line of word k, with the numbers n, leaves of the setup's and the call's numbers, the lists, the tallies and the book
 pub record Acted (b : Book) (k l : ℕ) (n setup call cells want setup2 call2 left : List ℤ) (before after : List ℕ) (r : Book) : Type 0 where
   pub setsUp : k ≡ 2 → (r ≡ setupLeaves (length n) b) × (setup2 ≡ cond (isFree b) (copied n setup) setup)
   pub begins : k ≡ 4 → (r ≡ callLeaves 8 l (length n) b) × (call2 ≡ cond (isFree b && eqb (length n) 8) (copied n call) call)
+  pub beginsPass : k ≡ 7 → (r ≡ callLeaves 14 l (length n) b) × (call2 ≡ cond (isFree b && eqb (length n) 14) (copied n call) call)
   pub checks : k ≡ 6 → Checked b n setup call cells want left before after r
   pub unknown : k ≡ 0 → r ≡ ended notALine b
   pub sameSetup : (k ≡ 2 → ⊥) → setup2 ≡ setup
-  pub sameCall : (k ≡ 4 → ⊥) → call2 ≡ call
+  pub sameCall : (k ≡ 4 → ⊥) → (k ≡ 7 → ⊥) → call2 ≡ call
   pub uncounted : (k ≡ 6 → ⊥) → after ≡ before
 
 -- what is made of what the reader found: the line is taken, or the run ends

@@ -4,7 +4,7 @@ use mathlib.Core.Path.{_≡_}
 use Prim.Native.Nat.{ℕ, _≤_, _<_}
 use lib.ListN.{getD}
 
--- the words 1 to 6, in ASCII: case, setup, set, call, changed, check
+-- the words 1 to 7, in ASCII: case, setup, set, call, changed, check, pass
 unfoldable pub names : List (List ℕ)
 names =
     []
@@ -14,13 +14,14 @@ names =
     ∷ (99 ∷ 97 ∷ 108 ∷ 108 ∷ [])
     ∷ (99 ∷ 104 ∷ 97 ∷ 110 ∷ 103 ∷ 101 ∷ 100 ∷ [])
     ∷ (99 ∷ 104 ∷ 101 ∷ 99 ∷ 107 ∷ [])
+    ∷ (112 ∷ 97 ∷ 115 ∷ 115 ∷ [])
     ∷ []
 
 unfoldable pub name : ℕ → List ℕ
 name k = getD names k []
 
--- the number of a word: 0 is that of a word which is none of the six
+-- the number of a word: 0 is that of a word which is none of the seven
 pub record Numbered (w : List ℕ) (r : ℕ) : Type 0 where
   pub named : 0 < r → w ≡ name r
-  pub few : r ≤ 6
-  pub none : r ≡ 0 → (k : ℕ) → 0 < k → k ≤ 6 → w ≡ name k → ⊥
+  pub few : r ≤ 7
+  pub none : r ≡ 0 → (k : ℕ) → 0 < k → k ≤ 7 → w ≡ name k → ⊥

@@ -22,7 +22,7 @@ pub struct Book {
     pub ended: usize,
     // The lengths of the case's lists.
     pub lengths: [usize; 8],
-    // How many numbers the setup has, and the call that was begun; 0 where there is none.
+    // How many numbers the setup has, and the call or pass that was begun; 0 where there is none.
     pub setup: usize,
     pub call: usize,
     // The call's line.
@@ -95,7 +95,7 @@ pub fn set(b: Book, is_set: bool) -> Book
     b
 }
 
-// A call has `count` numbers.
+// A call or a pass has `count` numbers.
 pub fn begin(mut b: Book, line: u64, count: usize, n: &[i64], call: &mut [i64]) -> Book
     ensures { λ r. ⌜ (r ≡ callLeaves count line (length (now (n .entry))) b) × (now (call .exit) ≡ cond (isFree b && eqb (length (now (n .entry))) count) (copied (now (n .entry)) (now (call .entry))) (now (call .entry))) ⌝ }
 {

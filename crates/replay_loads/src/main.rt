@@ -1,16 +1,19 @@
-// Replays kept loads: the lines of standard input (crate lines) make the lists of a store and the
-// planes, ask for loads, and say what each leaves; the library has to answer and leave the same.
+// Replays kept loads and passes: the lines of standard input (crate lines) make the lists of a store
+// and the planes, ask for loads or for single passes, and say what each leaves; the library has to
+// answer and leave the same.
 //
 //     case n length*8: a case begins; its lists have these lengths, and every element is 0
 //     setup record: the setup of the calls that follow (171 numbers: frame_cases)
 //     set list from count value..: in the list and in the wanted one, count elements from that place
 //       on get the values, again and again in their order
 //     call mode trajectories holes column_start column_end row_start row_end answer: a load
+//     pass kind a b y x mv_y mv_x mode trajectories holes column_start column_end row_start row_end: a
+//       pass of a load (crate pass_cases)
 //     changed list from count value..: as set, in the wanted list alone
-//     check n: n elements were named as changed; now the load is made and judged
+//     check n: n elements were named as changed; now the load or the pass is made and judged
 //
-// Lists 0 to 6 are the store's seven, 7 the planes. Ends at the first load that differs, or at a line
-// that cannot stand where it is.
+// Lists 0 to 6 are the store's seven, 7 the planes. Ends at the first load or pass that differs, or at
+// a line that cannot stand where it is.
 ghost use mathlib.Core.Path.{_≡_};
 ghost use Rattle.replay_loads.specs.Words.{Numbered};
 ghost use Rattle.replay_loads.specs.Calls.{kindOf, left, tallied, Checked, Acted, Taken};
@@ -36,10 +39,14 @@ const CHANGED: usize = 5;
 
 const CHECK: usize = 6;
 
+const PASS: usize = 7;
+
 // The kinds of cases that are counted.
 const LOAD: usize = 0;
 
 const REFUSED: usize = 1;
+
+const ONE_PASS: usize = 2;
 
 fn word_of(word: &[u8]) -> usize
     ensures { λ r. ⌜ Numbered (now (word .entry)) r ⌝ }
@@ -61,6 +68,9 @@ fn word_of(word: &[u8]) -> usize
     }
     if check::same(word, b"check") {
         return CHECK;
+    }
+    if check::same(word, b"pass") {
+        return PASS;
     }
     0
 }
@@ -84,10 +94,13 @@ fn change(b: Book, n: &[i64], want: &mut [i64]) -> Book {
     book::changed(b, n, is_set)
 }
 
-// The answer is the last number of a call.
-fn kind_of(call: &[i64]) -> usize
-    ensures { λ r. ⌜ r ≡ kindOf (now (call .entry)) ⌝ }
+// A pass has 14 numbers; the answer is the last number of a call.
+fn kind_of(count: usize, call: &[i64]) -> usize
+    ensures { λ r. ⌜ r ≡ kindOf count (now (call .entry)) ⌝ }
 {
+    if count == 14 {
+        return ONE_PASS;
+    }
     if call.len() <= 7 {
         return LOAD;
     }
@@ -107,7 +120,7 @@ fn judged(b: Book, verdict: Verdict, kind: usize, tallies: &mut [u64]) -> Book
     }
 }
 
-// Once a load agrees, the lists are the wanted ones.
+// Once a load or a pass agrees, the lists are the wanted ones.
 fn check(
     b: Book,
     n: &[i64],
@@ -129,7 +142,7 @@ fn check(
     }
     let verdict = kept_cases::judge(lengths, cells, want, setup, &call[0..count]);
     lists::copy(want, cells);
-    judged(b, verdict, kind_of(call), tallies)
+    judged(b, verdict, kind_of(count, call), tallies)
 }
 
 fn act(
@@ -152,6 +165,7 @@ fn act(
         CALL => book::begin(b, line, 8, n, call),
         CHANGED => change(b, n, want),
         CHECK => check(b, n, setup, call, tallies, cells, want),
+        PASS => book::begin(b, line, 14, n, call),
         _ => book::ended(b, book::NOT_A_LINE),
     }
 }
@@ -197,13 +211,23 @@ fn take_line(
     )
 }
 
+fn print_differing(b: Book) {
+    if b.call == 14 {
+        report::print_differs(b.line, b"pass");
+        return;
+    }
+    report::print_differs(b.line, b"call");
+}
+
 fn print_end(b: Book, line: u64, tallies: &[u64]) {
     let loads = report::tally(tallies, LOAD);
     let refused = report::tally(tallies, REFUSED);
+    let passes = report::tally(tallies, ONE_PASS);
     report::print_agreed(b"loads", loads);
     report::print_agreed(b"refused loads", refused);
+    report::print_agreed(b"passes", passes);
     if b.ended == book::DIFFERS {
-        report::print_differs(b.line, b"call");
+        print_differing(b);
         return;
     }
     if b.ended == book::NO_ROOM {
@@ -214,7 +238,8 @@ fn print_end(b: Book, line: u64, tallies: &[u64]) {
         report::print_why(line, b"not a line that may stand here");
         return;
     }
-    report::print_all_agree(std::num::wrapping_add_u64(loads, refused));
+    let calls = std::num::wrapping_add_u64(loads, refused);
+    report::print_all_agree(std::num::wrapping_add_u64(calls, passes));
 }
 
 // Makes the buffers and the lists once, and lends them. The turns are those of lines::next_line.

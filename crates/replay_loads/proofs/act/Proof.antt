@@ -24,6 +24,9 @@ change-requires c κs = search needs
 check-requires : tie.Need-check-requires
 check-requires c κs = search needs
 
+begin-requires-2 : tie.Need-begin-requires-2
+begin-requires-2 c κs = search needs
+
 ended-requires : tie.Need-ended-requires
 ended-requires c κs = search needs
 
@@ -42,7 +45,7 @@ same-length-3 c = search needs
 returns-2 : tie.Need-returns-2
 returns-2 c =
     let k = c .before .before .before .match .keys2 in
-    record { setsUp = λ f. c .before .setup .ensures; begins = λ f. absurd (omega arith); checks = λ f. absurd (omega arith); unknown = λ f. absurd (omega arith); sameSetup = λ f. absurd (f k); sameCall = λ f. refl; uncounted = λ f. refl }
+    record { setsUp = λ f. c .before .setup .ensures; begins = λ f. absurd (omega arith); beginsPass = λ f. absurd (omega arith); checks = λ f. absurd (omega arith); unknown = λ f. absurd (omega arith); sameSetup = λ f. absurd (f k); sameCall = λ f g. refl; uncounted = λ f. refl }
 
 same-length-4 : tie.Need-same-length-4
 same-length-4 c = search needs
@@ -59,7 +62,7 @@ same-length-6 c = search needs
 returns-4 : tie.Need-returns-4
 returns-4 c =
     let k = c .before .before .before .match .keys4 in
-    record { setsUp = λ f. absurd (omega arith); begins = λ f. c .before .begin .ensures; checks = λ f. absurd (omega arith); unknown = λ f. absurd (omega arith); sameSetup = λ f. refl; sameCall = λ f. absurd (f k); uncounted = λ f. refl }
+    record { setsUp = λ f. absurd (omega arith); begins = λ f. c .before .begin .ensures; beginsPass = λ f. absurd (omega arith); checks = λ f. absurd (omega arith); unknown = λ f. absurd (omega arith); sameSetup = λ f. refl; sameCall = λ f g. absurd (f k); uncounted = λ f. refl }
 
 same-length-7 : tie.Need-same-length-7
 same-length-7 c = search needs
@@ -85,12 +88,20 @@ same-length-12 c = search needs
 returns-6 : tie.Need-returns-6
 returns-6 c =
     let k = c .before .before .before .before .before .before .before .before .before .match .keys6 in
-    record { setsUp = λ f. absurd (omega arith); begins = λ f. absurd (omega arith); checks = λ f. c .before .before .before .check .ensures; unknown = λ f. absurd (omega arith); sameSetup = λ f. refl; sameCall = λ f. refl; uncounted = λ f. absurd (f k) }
+    record { setsUp = λ f. absurd (omega arith); begins = λ f. absurd (omega arith); beginsPass = λ f. absurd (omega arith); checks = λ f. c .before .before .before .check .ensures; unknown = λ f. absurd (omega arith); sameSetup = λ f. refl; sameCall = λ f g. refl; uncounted = λ f. absurd (f k) }
+
+same-length-13 : tie.Need-same-length-13
+same-length-13 c = search needs
 
 returns-7 : tie.Need-returns-7
 returns-7 c =
+    let k = c .before .before .before .match .keys7 in
+    record { setsUp = λ f. absurd (omega arith); begins = λ f. absurd (omega arith); beginsPass = λ f. c .before .begin2 .ensures; checks = λ f. absurd (omega arith); unknown = λ f. absurd (omega arith); sameSetup = λ f. refl; sameCall = λ f g. absurd (g k); uncounted = λ f. refl }
+
+returns-8 : tie.Need-returns-8
+returns-8 c =
     let m = c .before .match .rest in
-    record { setsUp = λ f. absurd (m .0 .0 .0 .0 .1 f); begins = λ f. absurd (m .0 .0 .1 f); checks = λ f. absurd (m .1 f); unknown = λ f. c .ended .ensures; sameSetup = λ f. refl; sameCall = λ f. refl; uncounted = λ f. refl }
+    record { setsUp = λ f. absurd (m .0 .0 .0 .0 .0 .1 f); begins = λ f. absurd (m .0 .0 .0 .1 f); beginsPass = λ f. absurd (m .1 f); checks = λ f. absurd (m .0 .1 f); unknown = λ f. c .ended .ensures; sameSetup = λ f. refl; sameCall = λ f g. refl; uncounted = λ f. refl }
 
 pub act-spec : {M : Type 1} → statement M
 act-spec =
@@ -102,6 +113,7 @@ act-spec =
     begin-requires
     change-requires
     check-requires
+    begin-requires-2
     ended-requires
     same-length
     same-length-2
@@ -121,4 +133,6 @@ act-spec =
     same-length-11
     same-length-12
     returns-6
-    returns-7)
+    same-length-13
+    returns-7
+    returns-8)

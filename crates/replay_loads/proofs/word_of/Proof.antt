@@ -67,9 +67,19 @@ returns-6 : tie.Need-returns-6
 unfolding names name
 returns-6 c = is-word 6 (omega arith) (omega arith) (c .before .same6 .ensures .0 (c .if6 .taken))
 
+slice-aggregate-same-7 : tie.Need-slice-aggregate-same-7
+slice-aggregate-same-7 c = search needs
+
+same-requires-7 : tie.Need-same-requires-7
+same-requires-7 c κs = search needs
+
 returns-7 : tie.Need-returns-7
 unfolding names name
-returns-7 c = is-none (told-false (c .before .before .before .before .before .before .before .before .before .before .before .before .before .before .before .before .same .ensures .1) (c .before .before .before .before .before .before .before .before .before .before .before .before .before .before .before .if1 .left)) (told-false (c .before .before .before .before .before .before .before .before .before .before .before .before .before .same2 .ensures .1) (c .before .before .before .before .before .before .before .before .before .before .before .before .if2 .left)) (told-false (c .before .before .before .before .before .before .before .before .before .before .same3 .ensures .1) (c .before .before .before .before .before .before .before .before .before .if3 .left)) (told-false (c .before .before .before .before .before .before .before .same4 .ensures .1) (c .before .before .before .before .before .before .if4 .left)) (told-false (c .before .before .before .before .same5 .ensures .1) (c .before .before .before .if5 .left)) (told-false (c .before .same6 .ensures .1) (c .if6 .left))
+returns-7 c = is-word 7 (omega arith) (omega arith) (c .before .same7 .ensures .0 (c .if7 .taken))
+
+returns-8 : tie.Need-returns-8
+unfolding names name
+returns-8 c = is-none (told-false (c .before .before .before .before .before .before .before .before .before .before .before .before .before .before .before .before .before .before .before .same .ensures .1) (c .before .before .before .before .before .before .before .before .before .before .before .before .before .before .before .before .before .before .if1 .left)) (told-false (c .before .before .before .before .before .before .before .before .before .before .before .before .before .before .before .before .same2 .ensures .1) (c .before .before .before .before .before .before .before .before .before .before .before .before .before .before .before .if2 .left)) (told-false (c .before .before .before .before .before .before .before .before .before .before .before .before .before .same3 .ensures .1) (c .before .before .before .before .before .before .before .before .before .before .before .before .if3 .left)) (told-false (c .before .before .before .before .before .before .before .before .before .before .same4 .ensures .1) (c .before .before .before .before .before .before .before .before .before .if4 .left)) (told-false (c .before .before .before .before .before .before .before .same5 .ensures .1) (c .before .before .before .before .before .before .if5 .left)) (told-false (c .before .before .before .before .same6 .ensures .1) (c .before .before .before .if6 .left)) (told-false (c .before .same7 .ensures .1) (c .if7 .left))
 
 pub word-of-spec : {M : Type 1} → statement M
 word-of-spec =
@@ -93,4 +103,7 @@ word-of-spec =
     slice-aggregate-same-6
     same-requires-6
     returns-6
-    returns-7)
+    slice-aggregate-same-7
+    same-requires-7
+    returns-7
+    returns-8)
