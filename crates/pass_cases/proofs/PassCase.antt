@@ -29,14 +29,15 @@ use Rattle.cases.proofs.Verdicts.{when-agrees}
 use Rattle.frame_cases.specs.FrameCase.{recordOf, Stated}
 use Rattle.load_cases.specs.LoadCase.{askedAt, callFrom, callAt, StoreListed}
 use Rattle.load_cases.specs.declared.Asked.{Asked}
-use Rattle.pass_cases.specs.PassCase.{PassNumbers, emptying, fieldPass, meeting, passOf, passed, Accepted, PassAgrees}
+use Rattle.pass_cases.specs.PassCase.{PassNumbers, emptying, fieldPass, meeting, passOf, afterPass, Accepted, PassAgrees}
+use Rattle.pass_cases.specs.Code.{Ran}
 
 -- what follows from a test that came out true
 pub tested : (b : Bool) {p : Type 0} → (b ≡ true → p) → WhenTrue b p
 tested true f = f refl
 tested false f = tt
 
--- ---- the numbers of a line
+-- ---- the numbers of a line: of usize, their size, and a vector's parts
 
 pub roomy : {h : ℕ} {z : ℤ} → h ≤ 9223372036854775807 → Inside (pos 0) (pos h) z → Inside (pos 0) (pos 9223372036854775807) z
 roomy {h} {z} l i = record { least = i .least; most = omega (signed, i .most, l) }
@@ -87,10 +88,10 @@ module _ (f : Frame) (n : List ℤ) {a : Asked} (e : a ≡ askedAt n 7) where
   fits-by h = subst (λ (a : Asked). tileFits (callFrom f a []) ≡ true) (sym e) h
 
   pub ran-by : (t : Tile) → t ≡ tileOf (callFrom f a []) → (s u : Store)
-      → u ≡ run (owns t) (passOf t (a .«whole_frame») (a .traj) (f .tip .delta) n (natAbs (at n 0))) s → u ≡ passed (callAt f n 7 []) n s
+      → u ≡ run (owns t) (passOf t (a .«whole_frame») (a .traj) (f .tip .delta) n (natAbs (at n 0))) s → u ≡ afterPass (callAt f n 7 []) n s
   ran-by t q s u h =
       h ∙ ap (λ (t : Tile). run (owns t) (passOf t (a .«whole_frame») (a .traj) (f .tip .delta) n (natAbs (at n 0))) s) q
-      ∙ ap (λ (a : Asked). passed (callFrom f a []) n s) e
+      ∙ ap (λ (a : Asked). afterPass (callFrom f a []) n s) e
 
 -- ---- the pass of each kind
 
@@ -146,7 +147,7 @@ emptied t w j fy₀ fx₀ fr₀ ty₀ tx₀ my₀ mx₀ fy₁ fx₁ fr₁ fy₂ 
 -- ---- the verdict
 
 pub agreed : (v : Verdict) (f : Frame) (setup n : List ℤ) (s : Store) (want : List ℤ) (b : Bool) {u : Store}
-    → Stated (recordOf f) setup 0 → PassNumbers n → Accepted f n s × (u ≡ passed (callAt f n 7 []) n s) → WhenTrue b (StoreListed u want)
+    → Stated (recordOf f) setup 0 → PassNumbers n → Ran f n s u → WhenTrue b (StoreListed u want)
     → WhenAgrees v (b ≡ true) → WhenAgrees v (PassAgrees setup n s want)
 agreed v f setup n s want b {u} st m l same =
-    when-agrees v (λ h. record { frame = f; stated = st; numbers = m; accepted = l .0; sameStore = subst (λ (x : Store). StoreListed x want) (l .1) (rw h at same) })
+    when-agrees v (λ h. record { frame = f; stated = st; numbers = m; accepted = l .accepted; sameStore = subst (λ (x : Store). StoreListed x want) (l .left) (rw h at same) })

@@ -47,8 +47,8 @@ passOf t wholeFrame traj delta n kind =
     cond (eqb kind 0) (emptying t wholeFrame traj) (cond (ltb kind 5) (fieldPass t delta kind) (cond (eqb kind 5) (each 0 7 (fillGapTraj t)) (meeting t n)))
 
 -- the store that the pass of a call leaves
-abbrev pub passed : Call → List ℤ → Store → Store
-passed c n s = run (owns (tileOf c)) (passOf (tileOf c) (c .wholeFrame) (c .traj) (c .setup .tip .delta) n (natAbs (at n 0))) s
+abbrev pub afterPass : Call → List ℤ → Store → Store
+afterPass c n s = run (owns (tileOf c)) (passOf (tileOf c) (c .wholeFrame) (c .traj) (c .setup .tip .delta) n (natAbs (at n 0))) s
 
 -- tests 9 to 11 accept a call on s, lent planes that are just as long as they have to be: a pass reads none, and a case has none
 pub record Accepted (f : Frame) (n : List ℤ) (s : Store) : Type 0 where
@@ -63,4 +63,4 @@ pub record PassAgrees (setup n : List ℤ) (s : Store) (want : List ℤ) : Type 
   pub stated : Stated (recordOf frame) setup 0
   pub numbers : PassNumbers n
   pub accepted : Accepted frame n s
-  pub sameStore : StoreListed (passed (callAt frame n 7 []) n s) want
+  pub sameStore : StoreListed (afterPass (callAt frame n 7 []) n s) want

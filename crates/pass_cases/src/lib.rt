@@ -2,7 +2,6 @@
 // against the lists that are wanted.
 ghost use mathlib.Core.Path.{_≡_};
 ghost use mathlib.Core.Bool.{false};
-ghost use mathlib.Core.List.{[]};
 ghost use Prim.Native.Nat.{_*_, _≤_, _<_};
 ghost use lib.IntN.{natAbs};
 ghost use lib.ListN.{length};
@@ -13,9 +12,8 @@ ghost use Rattle.tile.specs.Sound.{Sound, FieldHeld, TrajHeld, MapHeld};
 ghost use Rattle.checks.specs.Code.{Lengths};
 ghost use Rattle.cases.specs.Numbers.{at};
 ghost use Rattle.cases.specs.Verdicts.{WhenTrue, WhenAgrees};
-ghost use Rattle.load_cases.specs.LoadCase.{callAt};
-ghost use Rattle.pass_cases.specs.PassCase.{PassNumbers, emptying, fieldPass, meeting, passOf, passed, Accepted, PassAgrees};
-ghost use Rattle.pass_cases.specs.Code.{Applies};
+ghost use Rattle.pass_cases.specs.PassCase.{PassNumbers, emptying, fieldPass, meeting, passOf, Accepted, PassAgrees};
+ghost use Rattle.pass_cases.specs.Code.{Applies, Ran};
 use cases::Verdict;
 use frame::Frame;
 use levels::Mv;
@@ -234,10 +232,9 @@ fn run_on_tile(
     n: &[i64],
 ) -> bool
     requires { ⌜ (14 ≤ length (now n)) × PassNumbers (now n) ⌝ }
-    ensures { λ r. ⌜ (let s = pack (now («field_y» .entry)) (now («field_x» .entry)) (now («field_ref» .entry)) (now («traj_y» .entry)) (now («traj_x» .entry)) (now («map_y» .entry)) (now («map_x» .entry)) in
-        WhenTrue r (Accepted f (now (n .entry)) s
-        × (pack (now («field_y» .exit)) (now («field_x» .exit)) (now («field_ref» .exit)) (now («traj_y» .exit)) (now («traj_x» .exit)) (now («map_y» .exit)) (now («map_x» .exit))
-        ≡ passed (callAt f (now (n .entry)) 7 []) (now (n .entry)) s))) ⌝ }
+    ensures { λ r. ⌜ WhenTrue r (Ran f (now (n .entry))
+        (pack (now («field_y» .entry)) (now («field_x» .entry)) (now («field_ref» .entry)) (now («traj_y» .entry)) (now («traj_x» .entry)) (now («map_y» .entry)) (now («map_x» .entry)))
+        (pack (now («field_y» .exit)) (now («field_x» .exit)) (now («field_ref» .exit)) (now («traj_y» .exit)) (now («traj_x» .exit)) (now («map_y» .exit)) (now («map_x» .exit)))) ⌝ }
 {
     let fys = field_y.len();
     let fxs = field_x.len();

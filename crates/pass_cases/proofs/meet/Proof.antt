@@ -37,23 +37,19 @@ is-x c =
     let f : SFits w64 (at (s .args .n .now) 4) = sfits-of (c .before .to-usize-arg4 .given) in
     (simp back at (c .to-usize4 .ensures)) (roomy (omega arith) (s .pre .1 .1 .block 4 (omega arith) (omega arith)))
 
-is-mv-y : (c : tie.After-to-i32) → c .to-i32 .result ≡ (at (c .before .before .before .before .before .before .before .before .before .before .args .n .now) 5)
-is-mv-y c =
+mv-y-is : (c : tie.After-to-i32) → toZ w32 (ofZ w32 (c .to-i32 .result)) ≡ at (c .before .before .before .before .before .before .before .before .before .before .args .n .now) 5
+mv-y-is c =
     let s = c .before .before .before .before .before .before .before .before .before .before in
     let f : SFits w64 (at (s .args .n .now) 5) = sfits-of (c .before .to-i32-arg .given) in
-    (simp back at (c .to-i32 .ensures)) (short (s .pre .1 .1 .vector 5 (omega arith) (omega arith)) .0)
-
-is-mv-x : (c : tie.After-to-i322) → c .to-i322 .result ≡ (at (c .before .before .before .before .before .before .before .before .before .before .before .before .args .n .now) 6)
-is-mv-x c =
-    let s = c .before .before .before .before .before .before .before .before .before .before .before .before in
-    let f : SFits w64 (at (s .args .n .now) 6) = sfits-of (c .before .to-i32-arg2 .given) in
-    (simp back at (c .to-i322 .ensures)) (short (s .pre .1 .1 .vector 6 (omega arith) (omega arith)) .0)
-
-mv-y-is : (c : tie.After-to-i32) → toZ w32 (ofZ w32 (c .to-i32 .result)) ≡ at (c .before .before .before .before .before .before .before .before .before .before .args .n .now) 5
-mv-y-is c = let g : SFits w32 (c .to-i32 .result) = search needs in toZ-ofZ w32 _ g ∙ is-mv-y c
+    let g : SFits w32 (c .to-i32 .result) = search needs in
+    toZ-ofZ w32 _ g ∙ (simp back at (c .to-i32 .ensures)) (short (s .pre .1 .1 .vector 5 (omega arith) (omega arith)) .0)
 
 mv-x-is : (c : tie.After-to-i322) → toZ w32 (ofZ w32 (c .to-i322 .result)) ≡ at (c .before .before .before .before .before .before .before .before .before .before .before .before .args .n .now) 6
-mv-x-is c = let g : SFits w32 (c .to-i322 .result) = search needs in toZ-ofZ w32 _ g ∙ is-mv-x c
+mv-x-is c =
+    let s = c .before .before .before .before .before .before .before .before .before .before .before .before in
+    let f : SFits w64 (at (s .args .n .now) 6) = sfits-of (c .before .to-i32-arg2 .given) in
+    let g : SFits w32 (c .to-i322 .result) = search needs in
+    toZ-ofZ w32 _ g ∙ (simp back at (c .to-i322 .ensures)) (short (s .pre .1 .1 .vector 6 (omega arith) (omega arith)) .0)
 
 shared-slice-copy-out-to-usize : tie.Need-shared-slice-copy-out-to-usize
 shared-slice-copy-out-to-usize c = search needs

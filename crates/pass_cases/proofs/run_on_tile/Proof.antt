@@ -70,7 +70,7 @@ same-length-7 c = search needs
 returns-3 : tie.Need-returns-3
 returns-3 c =
     let s = c .before .before .before .before .before .before .before .before .before .before .before .before .before .before .before .before .before .before .before .before .before .before .before .before .before in let a = c .before .before .before .before .before .before .before .before .before .before .before .before .before .before .before .before .before .before .before .before .before .asked-at in let t = c .before .before .before .before .before .before .before .before .before .before .before .before .before .before .before .before .before .before .before .before .tile-of in let f = delta-fits (c .before .before .before .before .before .before .before .before .before) in
-    (fine (c .before .before .before .before .before .before .before .before .before .before .before .before .before .before .before .before .before .before .before .before .before .before), ran-by (s .args .f) (s .args .n .now) (a .ensures) (t .result) (t .ensures (a .result .traj) (a .result .holes) []) (was s) _ (simp back at (c .before .before .before .before .before .before .before .before .run-pass .ensures)))
+    record { accepted = fine (c .before .before .before .before .before .before .before .before .before .before .before .before .before .before .before .before .before .before .before .before .before .before); left = ran-by (s .args .f) (s .args .n .now) (a .ensures) (t .result) (t .ensures (a .result .traj) (a .result .holes) []) (was s) _ (simp back at (c .before .before .before .before .before .before .before .before .run-pass .ensures)) }
 
 pub run-on-tile-spec : {M : Type 1} → statement M
 run-on-tile-spec =
