@@ -1,17 +1,18 @@
 -- What a frame file's bytes say (docs/FRAME_FILE.md). Assumes nothing.
-use mathlib.Core.Bool.{Bool, not, _&&_}
-use mathlib.Core.List.{List}
-use Prim.Native.Nat.{ℕ, _+_, _*_}
+use mathlib.Core.Bool.{Bool, false, not, cond, _&&_}
+use mathlib.Core.List.{List, [], _∷_}
+use Prim.Native.Nat.{ℕ, zero, suc, _+_, _*_}
 use lib.Dec.{eqb}
 use lib.IntN.{ℤ}
-use lib.ListN.{length, getD, set}
+use lib.ListN.{length, getD, set, take, drop}
 use Rattle.frame.specs.declared.Header.{Header}
 use Rattle.levels.specs.declared.OrderHint.{OrderHint}
 use Rattle.loops.specs.Over.{span}
-use Rattle.loops.specs.Seven.{seven, storing}
+use Rattle.loops.specs.Seven.{seven}
 use Rattle.picks.specs.declared.Pocs.{Pocs}
 use Rattle.picks.specs.declared.Saved.{Saved}
 use Rattle.text.specs.Decimal.{signedByte}
+use Rattle.text.specs.Put.{joined}
 
 abbrev pub byteAt : List ℕ → ℕ → ℕ
 byteAt b at = getD b at 0
@@ -65,9 +66,21 @@ headerOf b =
 unfoldable pub isFrameFile : List ℕ → Bool
 isFrameFile b = eqb (byteAt b 0) 82 && eqb (byteAt b 1) 77 && eqb (byteAt b 2) 86 && eqb (byteAt b 3) 70 && eqb (byteAt b 4) 1
 
--- the first n numbers of four bytes, at the front of a list of ends
-unfoldable pub endsRead : List ℕ → ℕ → List ℕ → List ℕ
-endsRead b n ends = span (storing (λ i. wordAt b (4 * i))) 0 n ends
+-- "each tile column's end .., from left to right"
+abbrev pub endAt : List ℕ → ℕ → ℕ
+endAt b i = wordAt b (103 + 4 * i)
+
+abbrev pub endsOf : List ℕ → ℕ → List ℕ
+endsOf b n = joined (λ i. endAt b i ∷ []) n 0
+
+-- "the planes, for each slot 0 to 6 that has one": how many of the slots below k have one
+unfoldable pub heldBefore : List Bool → ℕ → ℕ
+heldBefore held zero = 0
+heldBefore held (suc k) = heldBefore held k + cond (getD held k false) 1 0
+
+-- where slot k's plane begins in a file with n tile columns: behind those of the slots below it, "H rows of W blocks" each; the file ends where that of a slot 7 would begin
+unfoldable pub planeAt : List Bool → ℕ → ℕ → ℕ → ℕ → ℕ
+planeAt held n wide high k = 103 + 4 * n + heldBefore held k * (6 * (high * wide))
 
 -- a row's bytes, as signed numbers, at a place of the planes
 abbrev pub putting : List ℕ → ℕ → ℕ → List ℤ → List ℤ
@@ -75,3 +88,20 @@ putting line at i planes = set planes (at + i) (signedByte (byteAt line i))
 
 unfoldable pub rowPut : List ℕ → ℕ → List ℤ → List ℤ
 rowPut line at planes = span (putting line at) 0 (length line) planes
+
+-- "Rows follow each other with nothing between them": the rows of the plane at `from` of the file, a stride apart in the planes from `at` on
+abbrev pub rowOf : List ℕ → ℕ → ℕ → ℕ → List ℕ
+rowOf b from wide y = take (6 * wide) (drop (from + 6 * (y * wide)) b)
+
+abbrev pub puttingRow : List ℕ → ℕ → ℕ → ℕ → ℕ → ℕ → List ℤ → List ℤ
+puttingRow b from wide stride at y = rowPut (rowOf b from wide y) (at + 6 * (y * stride))
+
+unfoldable pub planePut : List ℕ → ℕ → ℕ → ℕ → ℕ → ℕ → List ℤ → List ℤ
+planePut b from wide high stride at planes = span (puttingRow b from wide stride at) 0 high planes
+
+-- the planes of a file with n tile columns, each slot's in its place; a slot that has none keeps what is there
+abbrev pub puttingPlane : List ℕ → List Bool → ℕ → ℕ → ℕ → ℕ → ℕ → List ℤ → List ℤ
+puttingPlane b held n wide high stride k planes = cond (getD held k false) (planePut b (planeAt held n wide high k) wide high stride (k * (6 * (high * stride))) planes) planes
+
+unfoldable pub planesPut : List ℕ → List Bool → ℕ → ℕ → ℕ → ℕ → List ℤ → List ℤ
+planesPut b held n wide high stride planes = span (puttingPlane b held n wide high stride) 0 7 planes

@@ -1,8 +1,9 @@
 // A frame file's bytes (docs/FRAME_FILE.md): its header, its tile columns, the rows of its planes.
+ghost use mathlib.Core.Bool.{cond};
 ghost use mathlib.Core.Path.{_≡_};
-ghost use Prim.Native.Nat.{_+_, _*_, _≤_};
-ghost use lib.ListN.{length};
-ghost use Rattle.framefile.specs.File.{isOn, wordAt, hintsAt, savedAt, allSaved, switchesAt, pocsOf, headerOf, isFrameFile, endsRead, rowPut};
+ghost use Prim.Native.Nat.{_+_, _*_, _≤_, _<_};
+ghost use lib.ListN.{length, take};
+ghost use Rattle.framefile.specs.File.{isOn, wordAt, hintsAt, savedAt, allSaved, switchesAt, pocsOf, headerOf, isFrameFile, endAt, endsOf, heldBefore, planeAt, rowPut, planePut, puttingPlane, planesPut};
 use frame::Header;
 use levels::OrderHint;
 use picks::Pocs;
@@ -72,7 +73,7 @@ fn all_saved(b: &[u8]) -> [Saved; 7]
     out
 }
 
-fn switches_at(b: &[u8], at: usize) -> [bool; 7]
+pub fn switches_at(b: &[u8], at: usize) -> [bool; 7]
     requires { ⌜ at + 7 ≤ length (now b) ⌝ }
     ensures { λ r. ⌜ r ≡ switchesAt (now (b .entry)) at ⌝ }
 {
@@ -142,15 +143,50 @@ pub fn is_frame_file(b: &[u8]) -> bool
     (b[0] == b'R') & (b[1] == b'M') & (b[2] == b'V') & (b[3] == b'F') & (b[4] == 1)
 }
 
+// The end of tile column i, in cells.
+pub fn end_at(b: &[u8], i: usize) -> usize
+    requires { ⌜ (i ≤ 254) × (107 + 4 * i ≤ length (now b)) ⌝ }
+    ensures { λ r. ⌜ r ≡ endAt (now (b .entry)) i ⌝ }
+{
+    word_at(b, 103 + 4 * i) as usize
+}
+
 // The ends of the first n tile columns.
 pub fn read_ends(b: &[u8], n: usize, ends: &mut [usize])
-    requires { ⌜ (4 * n ≤ length (now b)) × (n ≤ length (now ends)) ⌝ }
-    ensures { λ _. ⌜ now (ends .exit) ≡ endsRead (now (b .entry)) n (now (ends .entry)) ⌝ }
+    requires { ⌜ (n ≤ 255) × (103 + 4 * n ≤ length (now b)) × (n ≤ length (now ends)) ⌝ }
+    ensures { λ _. ⌜ take n (now (ends .exit)) ≡ endsOf (now (b .entry)) n ⌝ }
 {
     for i in 0..n {
-        let end = word_at(b, 4 * i) as usize;
+        let end = end_at(b, i);
         ends[i] = end;
     }
+}
+
+fn one_if(here: bool) -> usize
+    ensures { λ r. ⌜ r ≡ cond here 1 0 ⌝ }
+{
+    if here { 1 } else { 0 }
+}
+
+// How many of the slots below k have their plane in the file.
+fn held_before(held: [bool; 7], k: usize) -> usize
+    requires { ⌜ k ≤ 7 ⌝ }
+    ensures { λ r. ⌜ (r ≡ heldBefore held k) × (r ≤ k) ⌝ }
+{
+    let mut n = 0;
+    for i in 0..k {
+        n += one_if(held[i]);
+    }
+    n
+}
+
+// Where slot k's plane begins in a file with n tile columns; 7 is past the last.
+pub fn plane_at(held: [bool; 7], n: usize, wide: usize, high: usize, k: usize) -> usize
+    requires { ⌜ (n ≤ 255) × (wide ≤ 256) × (high ≤ 256) × (k ≤ 7) ⌝ }
+    ensures { λ r. ⌜ r ≡ planeAt held n wide high k ⌝ }
+{
+    let bytes = 6 * (high * wide);
+    103 + 4 * n + held_before(held, k) * bytes
 }
 
 // A row of blocks goes to its place in the planes.
@@ -161,5 +197,72 @@ pub fn put_row(line: &[u8], planes: &mut [i8], at: usize)
     for i in 0..line.len() {
         let v = text::signed_byte(line[i]);
         planes[at + i] = v;
+    }
+}
+
+// A plane's rows, one behind the other from `from` on in the file, a stride apart in the planes.
+fn put_plane(
+    b: &[u8],
+    from: usize,
+    wide: usize,
+    high: usize,
+    stride: usize,
+    planes: &mut [i8],
+    at: usize,
+)
+    requires { ⌜ (wide ≤ stride) × (stride ≤ 256) × (high ≤ 256) × (from + 6 * (high * wide) ≤ length (now b)) × (at + 6 * (high * stride) ≤ length (now planes)) ⌝ }
+    ensures { λ _. ⌜ now (planes .exit) ≡ planePut (now (b .entry)) from wide high stride at (now (planes .entry)) ⌝ }
+{
+    for y in 0..high {
+        let row = from + 6 * (y * wide);
+        let end = row + 6 * wide;
+        put_row(&b[row..end], planes, at + 6 * (y * stride));
+    }
+}
+
+// The plane of slot k, where a file with n tile columns has one.
+fn put_held(
+    b: &[u8],
+    held: [bool; 7],
+    n: usize,
+    wide: usize,
+    high: usize,
+    stride: usize,
+    planes: &mut [i8],
+    k: usize,
+)
+    requires { ⌜ (n ≤ 255) × (wide ≤ stride) × (stride ≤ 256) × (high ≤ 256) × (planeAt held n wide high 7 ≤ length (now b)) × (2752512 ≤ length (now planes)) × (k < 7) ⌝ }
+    ensures { λ _. ⌜ now (planes .exit) ≡ puttingPlane (now (b .entry)) held n wide high stride k (now (planes .entry)) ⌝ }
+{
+    if !held[k] {
+        return;
+    }
+    let from = plane_at(held, n, wide, high, k);
+    put_plane(
+        b,
+        from,
+        wide,
+        high,
+        stride,
+        planes,
+        k * (6 * (high * stride)),
+    );
+}
+
+// The planes that a file with n tile columns has; the others stay as they were.
+pub fn put_planes(
+    b: &[u8],
+    held: [bool; 7],
+    n: usize,
+    wide: usize,
+    high: usize,
+    stride: usize,
+    planes: &mut [i8],
+)
+    requires { ⌜ (n ≤ 255) × (wide ≤ stride) × (stride ≤ 256) × (high ≤ 256) × (planeAt held n wide high 7 ≤ length (now b)) × (2752512 ≤ length (now planes)) ⌝ }
+    ensures { λ _. ⌜ now (planes .exit) ≡ planesPut (now (b .entry)) held n wide high stride (now (planes .entry)) ⌝ }
+{
+    for k in 0..7 {
+        put_held(b, held, n, wide, high, stride, planes, k);
     }
 }
