@@ -36,3 +36,8 @@ plane-within held n wide high k h t =
 -- the bytes of at most seven planes
 pub planes-low : (r wide high : ℕ) → r ≤ 7 → wide ≤ 256 → high ≤ 256 → r * (6 * (high * wide)) ≤ 2752512
 planes-low r wide high a w h = let b : 6 * (high * wide) ≤ 393216 = omega (arith, cells-low high wide h w) in mul-le-mul a b
+
+-- the planes stand behind the tile columns' ends
+pub head-within : (held : List Bool) (n wide high k : ℕ) → 103 + 4 * n ≤ planeAt held n wide high k
+unfolding planeAt
+head-within held n wide high k = omega arith

@@ -1,3 +1,3 @@
-pub mod Bounds
-pub mod Planes
+pub mod Parts
+pub mod Tests
 pub mod Words

@@ -1,4 +1,3 @@
-pub mod Accepted
 pub mod Asked
-pub mod Planes
-pub mod Problems
+pub mod Output
+pub mod Shown

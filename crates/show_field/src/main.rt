@@ -1,20 +1,21 @@
 // Reads a frame file from standard input, loads the frame's motion field, and writes it to standard
 // output: as text, or with the argument `picture` as a picture. docs/FRAME_FILE.md has the file, the
 // text, the picture, and the lines for files that cannot be shown.
+mod from_file;
 mod problems;
-mod read;
 mod write;
 
 ghost use mathlib.Core.Path.{_≡_};
-ghost use Prim.Native.Nat.{_≤_};
+ghost use Prim.Native.Nat.{_+_, _*_, _≤_};
 ghost use lib.ListN.{length};
-ghost use Rattle.show_field.specs.Accepted.{Accepted};
+ghost use Rattle.framefile.specs.File.{byteAt};
 ghost use Rattle.show_field.specs.Asked.{asked};
+ghost use Rattle.show_field.specs.Shown.{frameOf, endOf, badColumns, loadProblem, restProblem, problemOf, Told};
 use frame::Frame;
 use libc::STDIN_FILENO;
 use problems::Problem;
 
-enum Wanted {
+pub enum Wanted {
     Text,
     Picture,
     Usage,
@@ -46,197 +47,97 @@ fn asked() -> Wanted {
     wanted_of(os::arg_count(), &arg[..n])
 }
 
-// The file's rest, behind its head: the ends of n tile columns, and the planes.
-fn read_rest(f: Frame, n: usize, line: &mut [u8], ends: &mut [usize], planes: &mut [i8]) -> Problem
-    requires { ⌜ (f .width ≤ 2048) × (f .height ≤ 2048) × (n ≤ 255) × (14592 ≤ length (now line)) × (255 ≤ length (now ends)) × (2752512 ≤ length (now planes)) ⌝ }
-{
-    let wide = checks::wide_of(f);
-    let high = checks::high_of(f);
-    let stride = checks::stride_of(f);
-    if !read::read_ends(line, n, ends) {
-        return Problem::TooShort;
-    }
-    let present = f.rp_ref;
-    if !read::read_planes(present, line, wide, high, stride, planes) {
-        return Problem::TooShort;
-    }
-    if n == 0 {
-        return Problem::TileColumns;
-    }
-    if ends[n - 1] != wide {
-        return Problem::TileColumns;
-    }
-    if !read::is_at_end() {
-        return Problem::TooLong;
-    }
-    Problem::Nothing
-}
-
-fn write_field(
-    f: Frame,
-    picture: bool,
-    field_y: &[i32],
-    field_x: &[i32],
-    field_ref: &[u8],
-    out: &mut [u8],
-)
-    requires { ⌜ (f .width ≤ 2048) × (f .height ≤ 2048) × (65536 ≤ length (now «field_y»)) × (65536 ≤ length (now «field_x»)) × (65536 ≤ length (now «field_ref»)) × (14592 ≤ length (now out)) ⌝ }
-{
-    let stride = checks::stride_of(f);
-    if picture {
-        write::write_picture(field_y, field_x, f.width, f.height, stride, out);
-        return;
-    }
-    let wide = checks::wide_of(f);
-    let high = checks::high_of(f);
-    write::write_text(field_y, field_x, field_ref, wide, high, stride, out);
-}
-
-// The loads, and the field's way out.
-fn load_and_write(
-    f: Frame,
-    traj: bool,
-    holes: bool,
-    picture: bool,
-    n: usize,
-    ends: &[usize],
-    planes: &[i8],
-    field_y: &mut [i32],
-    field_x: &mut [i32],
-    field_ref: &mut [u8],
-    traj_y: &mut [i32],
-    traj_x: &mut [i32],
-    map_y: &mut [i8],
-    map_x: &mut [i8],
-    out: &mut [u8],
-) -> Problem
-    requires { ⌜ (f .width ≤ 2048) × (f .height ≤ 2048) × (n ≤ length (now ends)) ⌝ }
-    requires { ⌜ (65536 ≤ length (now «field_y»)) × (65536 ≤ length (now «field_x»)) × (65536 ≤ length (now «field_ref»)) × (14592 ≤ length (now out)) ⌝ }
-{
-    let said = loads::load_frame(
-        field_y,
-        field_x,
-        field_ref,
-        traj_y,
-        traj_x,
-        map_y,
-        map_x,
-        planes,
-        f,
-        traj,
-        holes,
-        &ends[..n],
-    );
-    if checks::number(said) != 0 {
-        return Problem::Load(said);
-    }
-    write_field(f, picture, field_y, field_x, field_ref, out);
-    Problem::Nothing
-}
-
-// Seven planes of 256 x 256 blocks. Its length is said here, so that no proof counts that far.
-fn no_planes() -> [i8; 2752512]
-    ensures { λ r. ⌜ 2752512 ≡ length r ⌝ }
-{
-    [0; 2752512]
-}
-
-// A load's buffers, for frames up to 2048 x 2048 pixels. The store is empty.
-fn show_loaded(
-    f: Frame,
-    traj: bool,
-    holes: bool,
-    picture: bool,
-    n: usize,
-    ends: &[usize],
-    planes: &[i8],
-    out: &mut [u8],
-) -> Problem
-    requires { ⌜ (f .width ≤ 2048) × (f .height ≤ 2048) × (n ≤ length (now ends)) × (14592 ≤ length (now out)) ⌝ }
+// The field's buffers, for frames up to 2048 x 2048 pixels, the loads, and the field's way out.
+fn show_loaded(file: &[u8], f: Frame, w: Wanted) -> Problem
+    requires { ⌜ (problemOf (now file) ≡ loadProblem (now file)) × (f ≡ frameOf (now file)) × (f .width ≤ 2048) × (f .height ≤ 2048) × (endOf (now file) ≤ length (now file)) ⌝ }
+    ensures { λ r. ⌜ Told (problemOf (now (file .entry))) r ⌝ }
 {
     let mut field_y = [levels::INVALID_MV; 65536];
     let mut field_x = [0i32; 65536];
     let mut field_ref = [0u8; 65536];
-    let mut traj_y = [levels::INVALID_MV; 57344];
-    let mut traj_x = [0i32; 57344];
-    let mut map_y = [-128i8; 172032];
-    let mut map_x = [-128i8; 172032];
-    load_and_write(
-        f,
-        traj,
-        holes,
-        picture,
-        n,
-        ends,
-        planes,
-        &mut field_y,
-        &mut field_x,
-        &mut field_ref,
-        &mut traj_y,
-        &mut traj_x,
-        &mut map_y,
-        &mut map_x,
-        out,
-    )
-}
-
-// A frame that is set up: the rest of its file, the loads, the field's way out.
-fn show_rest(
-    head: &[u8; 103],
-    f: Frame,
-    picture: bool,
-    line: &mut [u8],
-    ends: &mut [usize],
-    planes: &mut [i8],
-) -> Problem
-    requires { ⌜ (f .width ≤ 2048) × (f .height ≤ 2048) × (14592 ≤ length (now line)) × (255 ≤ length (now ends)) × (2752512 ≤ length (now planes)) ⌝ }
-{
-    let n = read::count(head[102]);
-    let problem = read_rest(f, n, line, ends, planes);
-    if problems::is_one(problem) {
-        return problem;
+    let refusal = from_file::load_field(file, f, &mut field_y, &mut field_x, &mut field_ref);
+    if refusal != 0 {
+        return Problem::Load(refusal);
     }
-    let traj = framefile::is_on(head[100]);
-    let holes = framefile::is_on(head[101]);
-    show_loaded(f, traj, holes, picture, n, ends, planes, line)
+    if !write::write_field(w, f, &field_y, &field_x, &field_ref) {
+        return Problem::NotWritten;
+    }
+    Problem::Nothing
 }
 
-fn show(head: &[u8; 103], f: Frame, picture: bool) -> Problem
-    requires { ⌜ Accepted (now head) f × (f .width ≤ 2048) × (f .height ≤ 2048) ⌝ }
+// Do n tile columns not end at the frame's width?
+fn bad_columns(file: &[u8], n: usize, wide: usize) -> bool
+    requires { ⌜ (n ≤ 255) × (103 + 4 * n ≤ length (now file)) ⌝ }
+    ensures { λ r. ⌜ r ≡ badColumns (now (file .entry)) n wide ⌝ }
 {
-    let mut line = [0u8; 14592];
-    let mut ends = [0usize; 255];
-    let mut planes = no_planes();
-    show_rest(head, f, picture, &mut line, &mut ends, &mut planes)
+    if n == 0 {
+        return true;
+    }
+    framefile::end_at(file, n - 1) != wide
 }
 
-fn run(picture: bool) -> Problem {
-    let mut head = [0u8; 103];
-    if io::read_full(STDIN_FILENO, &mut head) < 103 {
+// A frame that is set up: what is behind the file's head.
+fn show_rest(file: &[u8], f: Frame, w: Wanted) -> Problem
+    requires { ⌜ (problemOf (now file) ≡ restProblem (now file)) × (f ≡ frameOf (now file)) × (f .width ≤ 2048) × (f .height ≤ 2048) × (103 ≤ length (now file)) ⌝ }
+    ensures { λ r. ⌜ Told (problemOf (now (file .entry))) r ⌝ }
+{
+    let n = from_file::columns_of(file);
+    let wide = checks::wide_of(f);
+    let held = framefile::switches_at(file, 93);
+    let end = framefile::plane_at(held, n, wide, checks::high_of(f), 7);
+    if file.len() < end {
         return Problem::TooShort;
     }
-    if !framefile::is_frame_file(&head) {
+    if bad_columns(file, n, wide) {
+        return Problem::TileColumns;
+    }
+    if end < file.len() {
+        return Problem::TooLong;
+    }
+    show_loaded(file, f, w)
+}
+
+fn show(file: &[u8], w: Wanted) -> Problem
+    ensures { λ r. ⌜ Told (problemOf (now (file .entry))) r ⌝ }
+{
+    if file.len() < 103 {
+        return Problem::TooShort;
+    }
+    if !framefile::is_frame_file(file) {
         return Problem::NotAFrameFile;
     }
-    let setup = frame::init_frame(framefile::header_of(&head));
+    let setup = frame::init_frame(framefile::header_of(file));
     let said = setup.said;
-    let f = setup.frame;
-    if frame::number(said) != 0 {
-        return Problem::Setup(said);
+    let refusal = frame::number(said);
+    if refusal != 0 {
+        return Problem::Setup(refusal);
     }
+    let f = setup.frame;
     if 2048 < f.width {
         return Problem::TooLarge;
     }
     if 2048 < f.height {
         return Problem::TooLarge;
     }
-    show(&head, f, picture)
+    show_rest(file, f, w)
+}
+
+// Room for the longest file of a frame that can be shown, and for a byte behind it. Its length is said here, so that no proof counts that far.
+fn no_file() -> [u8; 2753636]
+    ensures { λ r. ⌜ 2753636 ≡ length r ⌝ }
+{
+    [0; 2753636]
+}
+
+fn run(w: Wanted) -> Problem {
+    let mut file = no_file();
+    let n = io::read_full(STDIN_FILENO, &mut file);
+    show(&file[..n], w)
 }
 
 fn main() {
     match asked() {
-        Wanted::Text => problems::tell(run(false)),
-        Wanted::Picture => problems::tell(run(true)),
         Wanted::Usage => problems::tell(Problem::Usage),
+        w => problems::tell(run(w)),
     }
 }

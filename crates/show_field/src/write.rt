@@ -1,7 +1,89 @@
-// Writing a field to standard output, row by row. It stops where a write fails.
+// A field's way to standard output, part by part. It stops where a write fails.
+ghost use mathlib.Core.Path.{_≡_};
 ghost use Prim.Native.Nat.{_+_, _*_, _/_, _≤_, _<_};
 ghost use lib.ListN.{length};
+ghost use Rattle.load.specs.Load.{wideOf, highOf, strideOf};
+ghost use Rattle.text.specs.Put.{Put};
+ghost use Rattle.show.specs.Text.{rowText};
+ghost use Rattle.show.specs.Picture.{rowPixels};
+ghost use Rattle.show_field.specs.Output.{partsOf, picturePart, partOf};
+ghost use Rattle.show_field.specs.Shown.{FieldOfFile};
+use crate::Wanted;
+use frame::Frame;
 use libc::STDOUT_FILENO;
+
+fn parts_of(w: Wanted, f: Frame) -> usize
+    requires { ⌜ f .height ≤ 2048 ⌝ }
+    ensures { λ r. ⌜ r ≡ partsOf w f ⌝ }
+{
+    match w {
+        Wanted::Text => checks::high_of(f),
+        Wanted::Picture => f.height as usize + 1,
+        Wanted::Usage => 0,
+    }
+}
+
+// Each put function writes a part's bytes to the front of out, and answers where they end.
+fn put_row_text(
+    f: Frame,
+    row: usize,
+    field_y: &[i32],
+    field_x: &[i32],
+    field_ref: &[u8],
+    out: &mut [u8],
+) -> usize
+    requires { ⌜ (f .width ≤ 2048) × (f .height ≤ 2048) × (row < highOf f) × (65536 ≤ length (now «field_y»)) × (65536 ≤ length (now «field_x»)) × (65536 ≤ length (now «field_ref»)) × (14592 ≤ length (now out)) ⌝ }
+    ensures { λ r. ⌜ Put (now (out .entry)) 0 14592 (rowText (now («field_y» .entry)) (now («field_x» .entry)) (now («field_ref» .entry)) (row * strideOf f) row (wideOf f)) (now (out .exit)) r ⌝ }
+{
+    let base = row * checks::stride_of(f);
+    let wide = checks::wide_of(f);
+    show::put_row_text(
+        field_y,
+        field_x,
+        field_ref,
+        base,
+        row as u32,
+        wide as u32,
+        out,
+    )
+}
+
+fn put_row_pixels(f: Frame, py: usize, field_y: &[i32], field_x: &[i32], out: &mut [u8]) -> usize
+    requires { ⌜ (f .width ≤ 2048) × (f .height ≤ 2048) × (py < f .height) × (65536 ≤ length (now «field_y»)) × (65536 ≤ length (now «field_x»)) × (14592 ≤ length (now out)) ⌝ }
+    ensures { λ r. ⌜ Put (now (out .entry)) 0 14592 (rowPixels (now («field_y» .entry)) (now («field_x» .entry)) (py / 8 * strideOf f) py (f .width)) (now (out .exit)) r ⌝ }
+{
+    let base = py / 8 * checks::stride_of(f);
+    show::put_row_pixels(field_y, field_x, base, py as u32, f.width, out)
+}
+
+fn put_picture_part(f: Frame, k: usize, field_y: &[i32], field_x: &[i32], out: &mut [u8]) -> usize
+    requires { ⌜ (f .width ≤ 2048) × (f .height ≤ 2048) × (k ≤ f .height) × (65536 ≤ length (now «field_y»)) × (65536 ≤ length (now «field_x»)) × (14592 ≤ length (now out)) ⌝ }
+    ensures { λ r. ⌜ Put (now (out .entry)) 0 14592 (picturePart f (now («field_y» .entry)) (now («field_x» .entry)) k) (now (out .exit)) r ⌝ }
+{
+    if k == 0 {
+        return show::put_head(f.width, f.height, out, 0);
+    }
+    put_row_pixels(f, k - 1, field_y, field_x, out)
+}
+
+fn put_part(
+    w: Wanted,
+    f: Frame,
+    k: usize,
+    field_y: &[i32],
+    field_x: &[i32],
+    field_ref: &[u8],
+    out: &mut [u8],
+) -> usize
+    requires { ⌜ (f .width ≤ 2048) × (f .height ≤ 2048) × (k < partsOf w f) × (65536 ≤ length (now «field_y»)) × (65536 ≤ length (now «field_x»)) × (65536 ≤ length (now «field_ref»)) × (14592 ≤ length (now out)) ⌝ }
+    ensures { λ r. ⌜ Put (now (out .entry)) 0 14592 (partOf w f (now («field_y» .entry)) (now («field_x» .entry)) (now («field_ref» .entry)) k) (now (out .exit)) r ⌝ }
+{
+    match w {
+        Wanted::Text => put_row_text(f, k, field_y, field_x, field_ref, out),
+        Wanted::Picture => put_picture_part(f, k, field_y, field_x, out),
+        Wanted::Usage => 0,
+    }
+}
 
 // The first n bytes of out.
 fn write_front(out: &[u8], n: usize) -> bool
@@ -10,86 +92,30 @@ fn write_front(out: &[u8], n: usize) -> bool
     io::write_all(STDOUT_FILENO, &out[..n])
 }
 
-// A line has at most 57 bytes.
-fn write_lines(
+// False where a write fails.
+fn write_parts(
+    w: Wanted,
+    f: Frame,
     field_y: &[i32],
     field_x: &[i32],
     field_ref: &[u8],
-    base: usize,
-    row: usize,
-    wide: usize,
     out: &mut [u8],
 ) -> bool
-    requires { ⌜ (wide ≤ 256) × (row ≤ 256) × (base + wide ≤ length (now «field_y»)) × (base + wide ≤ length (now «field_x»)) × (base + wide ≤ length (now «field_ref»)) × (57 * wide ≤ length (now out)) ⌝ }
+    requires { ⌜ FieldOfFile f (now «field_y») (now «field_x») (now «field_ref») × (f .width ≤ 2048) × (f .height ≤ 2048) × (65536 ≤ length (now «field_y»)) × (65536 ≤ length (now «field_x»)) × (65536 ≤ length (now «field_ref»)) × (14592 ≤ length (now out)) ⌝ }
 {
-    let end = show::put_row_text(
-        field_y,
-        field_x,
-        field_ref,
-        base,
-        row as u32,
-        wide as u32,
-        out,
-    );
-    write_front(out, end)
-}
-
-pub fn write_text(
-    field_y: &[i32],
-    field_x: &[i32],
-    field_ref: &[u8],
-    wide: usize,
-    high: usize,
-    stride: usize,
-    out: &mut [u8],
-)
-    requires { ⌜ (wide ≤ stride) × (stride ≤ 256) × (high ≤ 256) × (65536 ≤ length (now «field_y»)) × (65536 ≤ length (now «field_x»)) × (65536 ≤ length (now «field_ref»)) × (57 * wide ≤ length (now out)) ⌝ }
-{
-    for row in 0..high {
-        if !write_lines(field_y, field_x, field_ref, row * stride, row, wide, out) {
-            return;
+    for k in 0..parts_of(w, f) {
+        let end = put_part(w, f, k, field_y, field_x, field_ref, out);
+        if !write_front(out, end) {
+            return false;
         }
     }
+    true
 }
 
-fn write_head(width: u32, height: u32, out: &mut [u8]) -> bool
-    requires { ⌜ 29 ≤ length (now out) ⌝ }
+// A row of 256 cells has at most 57 bytes for each.
+pub fn write_field(w: Wanted, f: Frame, field_y: &[i32], field_x: &[i32], field_ref: &[u8]) -> bool
+    requires { ⌜ FieldOfFile f (now «field_y») (now «field_x») (now «field_ref») × (f .width ≤ 2048) × (f .height ≤ 2048) × (65536 ≤ length (now «field_y»)) × (65536 ≤ length (now «field_x»)) × (65536 ≤ length (now «field_ref»)) ⌝ }
 {
-    let end = show::put_head(width, height, out, 0);
-    write_front(out, end)
-}
-
-fn write_pixels(
-    field_y: &[i32],
-    field_x: &[i32],
-    base: usize,
-    py: u32,
-    width: u32,
-    out: &mut [u8],
-) -> bool
-    requires { ⌜ (py ≤ 65536) × (width ≤ 65536) × (base + (width + 7) / 8 ≤ length (now «field_y»)) × (base + (width + 7) / 8 ≤ length (now «field_x»)) × (3 * width ≤ length (now out)) ⌝ }
-{
-    let end = show::put_row_pixels(field_y, field_x, base, py, width, out);
-    write_front(out, end)
-}
-
-pub fn write_picture(
-    field_y: &[i32],
-    field_x: &[i32],
-    width: u32,
-    height: u32,
-    stride: usize,
-    out: &mut [u8],
-)
-    requires { ⌜ (width ≤ 2048) × (height ≤ 2048) × ((width + 7) / 8 ≤ stride) × (stride ≤ 256) × (65536 ≤ length (now «field_y»)) × (65536 ≤ length (now «field_x»)) × (3 * width ≤ length (now out)) × (29 ≤ length (now out)) ⌝ }
-{
-    if !write_head(width, height, out) {
-        return;
-    }
-    for py in 0..height {
-        let base = (py / 8) as usize * stride;
-        if !write_pixels(field_y, field_x, base, py, width, out) {
-            return;
-        }
-    }
+    let mut out = [0u8; 14592];
+    write_parts(w, f, field_y, field_x, field_ref, &mut out)
 }

@@ -1,0 +1,95 @@
+-- `show_field::show` meets its contract. Assumes nothing.
+use mathlib.Core.Logic.{inl}
+use mathlib.Core.Path.{sym, ap, subst, _∙_}
+use Prim.Native.Nat.{_≤_, _<_}
+use borrow.Author.Needs.{needs}
+use borrow.Author.Tests.{not-true, not-false}
+use native.Mathlib.Omega.{arith}
+use Rattle.frame.specs.declared.Frame.{Frame}
+use Rattle.show_field.specs.declared.problems.Problem.the-variants.{Setup}
+use Rattle.show_field.proofs.Parts.{setup-as}
+use Rattle.show_field.proofs.Tests.{head-short, no-file, no-setup, too-wide, too-high, head-fine}
+use Rattle.show_field.proofs.show.Statement.{statement}
+use Rattle.show_field.proofs.show.Tie as tie
+
+returns : tie.Need-returns
+returns c = inl (sym (head-short (c .before .before .args .file .now) (c .if1 .taken)))
+
+is-frame-file-requires : tie.Need-is-frame-file-requires
+is-frame-file-requires c κs = search needs
+
+returns-2 : tie.Need-returns-2
+returns-2 c = let s = c .before .before .before .before in inl (sym (no-file (s .args .file .now) (c .before .before .if1 .left) (sym (c .before .is-frame-file .ensures) ∙ not-true (c .before .is-frame-file .result) (c .if2 .taken))))
+
+header-of-requires : tie.Need-header-of-requires
+header-of-requires c κs = search needs
+
+init-frame-requires : tie.Need-init-frame-requires
+init-frame-requires c κs = search needs
+
+number-requires : tie.Need-number-requires
+number-requires c κs = search needs
+
+returns-3 : tie.Need-returns-3
+returns-3 c =
+    let s = c .before .before .before .before .before .before .before .before in
+    let f = s .args .file .now in
+    let long = c .before .before .before .before .before .before .if1 .left in
+    let file = sym (c .before .before .before .before .before .is-frame-file .ensures) ∙ not-false (c .before .before .before .before .before .is-frame-file .result) (c .before .before .before .before .if2 .left) in
+    let e = setup-as f (c .before .before .before .header-of .result) (c .before .before .init-frame .result) (c .before .before .before .header-of .ensures) (c .before .before .init-frame .ensures) in
+    let n = c .before .number .ensures ∙ e .0 in
+    inl (sym (no-setup f long file (λ z. c .if3 .taken (n ∙ z)) ∙ ap Setup (sym n)))
+
+returns-4 : tie.Need-returns-4
+returns-4 c =
+    let s = c .before .before .before .before .before .before .before .before .before .before .before in
+    let f = s .args .file .now in
+    let long = c .before .before .before .before .before .before .before .before .before .if1 .left in
+    let file = sym (c .before .before .before .before .before .before .before .before .is-frame-file .ensures) ∙ not-false (c .before .before .before .before .before .before .before .before .is-frame-file .result) (c .before .before .before .before .before .before .before .if2 .left) in
+    let e = setup-as f (c .before .before .before .before .before .before .header-of .result) (c .before .before .before .before .before .init-frame .result) (c .before .before .before .before .before .before .header-of .ensures) (c .before .before .before .before .before .init-frame .ensures) in
+    let n = c .before .before .before .before .number .ensures ∙ e .0 in
+    let wide = subst (λ (g : Frame). 2048 < g .width) (e .1) (c .if4 .taken) in
+    inl (sym (too-wide f long file (sym n ∙ c .before .before .before .if3 .left) wide))
+
+returns-5 : tie.Need-returns-5
+returns-5 c =
+    let s = c .before .before .before .before .before .before .before .before .before .before .before .before .before in
+    let f = s .args .file .now in
+    let long = c .before .before .before .before .before .before .before .before .before .before .before .if1 .left in
+    let file = sym (c .before .before .before .before .before .before .before .before .before .before .is-frame-file .ensures) ∙ not-false (c .before .before .before .before .before .before .before .before .before .before .is-frame-file .result) (c .before .before .before .before .before .before .before .before .before .if2 .left) in
+    let e = setup-as f (c .before .before .before .before .before .before .before .before .header-of .result) (c .before .before .before .before .before .before .before .init-frame .result) (c .before .before .before .before .before .before .before .before .header-of .ensures) (c .before .before .before .before .before .before .before .init-frame .ensures) in
+    let n = c .before .before .before .before .before .before .number .ensures ∙ e .0 in
+    let wide = subst (λ (g : Frame). g .width ≤ 2048) (e .1) (c .before .before .if4 .left) in
+    let high = subst (λ (g : Frame). 2048 < g .height) (e .1) (c .if5 .taken) in
+    inl (sym (too-high f long file (sym n ∙ c .before .before .before .before .before .if3 .left) wide high))
+
+show-rest-requires : tie.Need-show-rest-requires
+show-rest-requires c κs =
+    let s = c .before .before .before .before .before .before .before .before .before .before .before .before .before in
+    let f = s .args .file .now in
+    let long = c .before .before .before .before .before .before .before .before .before .before .before .if1 .left in
+    let file = sym (c .before .before .before .before .before .before .before .before .before .before .is-frame-file .ensures) ∙ not-false (c .before .before .before .before .before .before .before .before .before .before .is-frame-file .result) (c .before .before .before .before .before .before .before .before .before .if2 .left) in
+    let e = setup-as f (c .before .before .before .before .before .before .before .before .header-of .result) (c .before .before .before .before .before .before .before .init-frame .result) (c .before .before .before .before .before .before .before .before .header-of .ensures) (c .before .before .before .before .before .before .before .init-frame .ensures) in
+    let n = c .before .before .before .before .before .before .number .ensures ∙ e .0 in
+    let wide = subst (λ (g : Frame). g .width ≤ 2048) (e .1) (c .before .before .if4 .left) in
+    let high = subst (λ (g : Frame). g .height ≤ 2048) (e .1) (c .if5 .left) in
+    (head-fine f long file (sym n ∙ c .before .before .before .before .before .if3 .left) wide high, e .1, c .before .before .if4 .left, c .if5 .left, long)
+
+returns-6 : tie.Need-returns-6
+returns-6 c = search needs
+
+pub show-spec : {M : Type 1} → statement M
+show-spec =
+    tie.close
+    (tie.spec
+    returns
+    is-frame-file-requires
+    returns-2
+    header-of-requires
+    init-frame-requires
+    number-requires
+    returns-3
+    returns-4
+    returns-5
+    show-rest-requires
+    returns-6)

@@ -1,0 +1,66 @@
+-- `show_field::show_loaded` meets its contract. Assumes nothing.
+use mathlib.Core.Logic.{inl, inr}
+use mathlib.Core.Path.{refl, sym, _∙_}
+use Prim.Native.Nat.{ℕ}
+use lib.ListN.{length-replicate}
+use borrow.Author.Needs.{needs}
+use Rattle.levels.specs.Vector.{empty}
+use Rattle.show_field.proofs.Parts.{still-long}
+use Rattle.show_field.specs.Shown.{emptyStore}
+use Rattle.show_field.proofs.Tests.{load-refused, load-fine}
+use Rattle.show_field.proofs.show_loaded.Statement.{statement}
+use Rattle.show_field.proofs.show_loaded.Tie as tie
+
+slice-aggregate-load-field : tie.Need-slice-aggregate-load-field
+slice-aggregate-load-field c = search needs
+
+slice-aggregate-load-field-2 : tie.Need-slice-aggregate-load-field-2
+slice-aggregate-load-field-2 c = search needs
+
+slice-aggregate-load-field-3 : tie.Need-slice-aggregate-load-field-3
+slice-aggregate-load-field-3 c = search needs
+
+load-field-requires : tie.Need-load-field-requires
+unfolding emptyStore
+load-field-requires c κs = let p = c .before .before .before .before .pre in ((p .1, p .2, p .3, p .4), (refl, refl, refl))
+
+returns : tie.Need-returns
+returns c = let s = c .before .before .before .before .before .before .before .before .before in let n = c .before .before .before .before .load-field in inl (sym (s .pre .0 ∙ load-refused (s .args .file .now) (n .result) (n .ensures .0) (c .if1 .taken)))
+
+slice-aggregate-write-field : tie.Need-slice-aggregate-write-field
+slice-aggregate-write-field c = search needs
+
+slice-aggregate-write-field-2 : tie.Need-slice-aggregate-write-field-2
+slice-aggregate-write-field-2 c = search needs
+
+slice-aggregate-write-field-3 : tie.Need-slice-aggregate-write-field-3
+slice-aggregate-write-field-3 c = search needs
+
+write-field-requires : tie.Need-write-field-requires
+write-field-requires c κs =
+    let s = c .before .before .before .before .before .before .before .before .before .before .before .before in
+    let n = c .before .before .before .before .before .before .before .load-field in
+    let fine = s .pre .0 ∙ load-fine (s .args .file .now) (n .result) (n .ensures .0) (c .before .before .before .if1 .left) in
+    (record { file = s .args .file .now; fine = fine; frame = s .pre .1; sameY = n .ensures .1; sameX = n .ensures .2; sameRef = n .ensures .3 }, s .pre .2, s .pre .3, still-long (n .kept .1 .1 .0) (length-replicate 65536 (empty .y)), still-long (n .kept .1 .1 .1 .0) (length-replicate 65536 (empty .x)), still-long (n .kept .1 .1 .1 .1 .0) (length-replicate {A = ℕ} 65536 0))
+
+returns-2 : tie.Need-returns-2
+returns-2 c = let s = c .before .before .before .before .before .before .before .before .before .before .before .before .before .before in let n = c .before .before .before .before .before .before .before .before .before .load-field in inr (s .pre .0 ∙ load-fine (s .args .file .now) (n .result) (n .ensures .0) (c .before .before .before .before .before .if1 .left), refl)
+
+returns-3 : tie.Need-returns-3
+returns-3 c = let s = c .before .before .before .before .before .before .before .before .before .before .before .before .before .before in let n = c .before .before .before .before .before .before .before .before .before .load-field in inl (sym (s .pre .0 ∙ load-fine (s .args .file .now) (n .result) (n .ensures .0) (c .before .before .before .before .before .if1 .left)))
+
+pub show-loaded-spec : {M : Type 1} → statement M
+show-loaded-spec =
+    tie.close
+    (tie.spec
+    slice-aggregate-load-field
+    slice-aggregate-load-field-2
+    slice-aggregate-load-field-3
+    load-field-requires
+    returns
+    slice-aggregate-write-field
+    slice-aggregate-write-field-2
+    slice-aggregate-write-field-3
+    write-field-requires
+    returns-2
+    returns-3)

@@ -1,0 +1,32 @@
+-- What is written of a field, part by part (docs/FRAME_FILE.md, "Text" and "Picture"). Assumes nothing.
+use mathlib.Core.List.{List, []}
+use Prim.Native.Nat.{ℕ, zero, suc, _+_, _*_, _/_}
+use lib.IntN.{ℤ}
+use Rattle.frame.specs.declared.Frame.{Frame}
+use Rattle.load.specs.Load.{wideOf, highOf, strideOf}
+use Rattle.text.specs.Put.{joined}
+use Rattle.show.specs.Text.{rowText}
+use Rattle.show.specs.Picture.{rowPixels, headText}
+use Rattle.show_field.specs.declared.Wanted.{Wanted}
+use Rattle.show_field.specs.declared.Wanted.the-variants.{Text, Picture, Usage}
+
+-- how many parts there are: of a text the rows of cells, of a picture its head and the rows of pixels
+abbrev pub partsOf : Wanted → Frame → ℕ
+partsOf Text f = highOf f
+partsOf Picture f = f .height + 1
+partsOf Usage f = 0
+
+-- the head of a picture, and its rows of pixels; a cell is 8 pixels high
+abbrev pub picturePart : Frame → List ℤ → List ℤ → ℕ → List ℕ
+picturePart f ys xs zero = headText (f .width) (f .height)
+picturePart f ys xs (suc py) = rowPixels ys xs (py / 8 * strideOf f) py (f .width)
+
+-- part k
+abbrev pub partOf : Wanted → Frame → List ℤ → List ℤ → List ℕ → ℕ → List ℕ
+partOf Text f ys xs refs k = rowText ys xs refs (k * strideOf f) k (wideOf f)
+partOf Picture f ys xs refs k = picturePart f ys xs k
+partOf Usage f ys xs refs k = []
+
+-- all of it
+unfoldable pub outputOf : Wanted → Frame → List ℤ → List ℤ → List ℕ → List ℕ
+outputOf w f ys xs refs = joined (partOf w f ys xs refs) (partsOf w f) 0
