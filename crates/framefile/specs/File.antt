@@ -14,6 +14,7 @@ use Rattle.picks.specs.declared.Saved.{Saved}
 use Rattle.text.specs.Decimal.{signedByte}
 use Rattle.text.specs.Put.{joined}
 
+-- a byte of the file; 0 past its end
 abbrev pub byteAt : List ℕ → ℕ → ℕ
 byteAt b at = getD b at 0
 
@@ -41,6 +42,10 @@ allSaved b = seven (λ i. savedAt b (37 + 8 * i))
 unfoldable pub switchesAt : List ℕ → ℕ → List Bool
 switchesAt b at = seven (λ i. isOn (byteAt b (at + i)))
 
+-- "for each slot a switch, whether its plane is in the file"
+abbrev pub presentOf : List ℕ → List Bool
+presentOf b = switchesAt b 93
+
 unfoldable pub pocsOf : List ℕ → Pocs
 pocsOf b = record { nbits = wordAt b 5; poc = hintAt b 29; «n_refs» = wordAt b 17; «ref_poc» = hintsAt b 30; saved = allSaved b }
 
@@ -58,7 +63,7 @@ headerOf b =
       «tip_frame_mode» = byteAt b 26;
       tip0 = signedByte (byteAt b 27);
       tip1 = signedByte (byteAt b 28);
-      «rp_ref» = switchesAt b 93;
+      «rp_ref» = presentOf b;
       pocs = pocsOf b;
     }
 
@@ -74,34 +79,38 @@ abbrev pub endsOf : List ℕ → ℕ → List ℕ
 endsOf b n = joined (λ i. endAt b i ∷ []) n 0
 
 -- "the planes, for each slot 0 to 6 that has one": how many of the slots below k have one
-unfoldable pub heldBefore : List Bool → ℕ → ℕ
-heldBefore held zero = 0
-heldBefore held (suc k) = heldBefore held k + cond (getD held k false) 1 0
+unfoldable pub presentBefore : List Bool → ℕ → ℕ
+presentBefore present zero = 0
+presentBefore present (suc k) = presentBefore present k + cond (getD present k false) 1 0
 
--- where slot k's plane begins in a file with n tile columns: behind those of the slots below it, "H rows of W blocks" each; the file ends where that of a slot 7 would begin
+-- where slot k's plane begins in a file with n tile columns: behind their ends and the planes of the slots below it, "H rows of W blocks" of six bytes each; for k = 7, where the file ends
 unfoldable pub planeAt : List Bool → ℕ → ℕ → ℕ → ℕ → ℕ
-planeAt held n wide high k = 103 + 4 * n + heldBefore held k * (6 * (high * wide))
+planeAt present n wide high k = 103 + 4 * n + presentBefore present k * (6 * (high * wide))
 
--- a row's bytes, as signed numbers, at a place of the planes
-abbrev pub putting : List ℕ → ℕ → ℕ → List ℤ → List ℤ
-putting line at i planes = set planes (at + i) (signedByte (byteAt line i))
+-- byte i of a row, as a signed number, is stored at place at + i of the planes
+abbrev pub putByte : List ℕ → ℕ → ℕ → List ℤ → List ℤ
+putByte line at i planes = set planes (at + i) (signedByte (byteAt line i))
 
-unfoldable pub rowPut : List ℕ → ℕ → List ℤ → List ℤ
-rowPut line at planes = span (putting line at) 0 (length line) planes
+-- all bytes of a row
+unfoldable pub putRow : List ℕ → ℕ → List ℤ → List ℤ
+putRow line at planes = span (putByte line at) 0 (length line) planes
 
--- "Rows follow each other with nothing between them": the rows of the plane at `from` of the file, a stride apart in the planes from `at` on
+-- "Rows follow each other with nothing between them": row y of the plane that begins at byte `from` of the file
 abbrev pub rowOf : List ℕ → ℕ → ℕ → ℕ → List ℕ
 rowOf b from wide y = take (6 * wide) (drop (from + 6 * (y * wide)) b)
 
-abbrev pub puttingRow : List ℕ → ℕ → ℕ → ℕ → ℕ → ℕ → List ℤ → List ℤ
-puttingRow b from wide stride at y = rowPut (rowOf b from wide y) (at + 6 * (y * stride))
+-- it is stored y * stride blocks behind `at`
+abbrev pub putPlaneRow : List ℕ → ℕ → ℕ → ℕ → ℕ → ℕ → List ℤ → List ℤ
+putPlaneRow b from wide stride at y = putRow (rowOf b from wide y) (at + 6 * (y * stride))
 
-unfoldable pub planePut : List ℕ → ℕ → ℕ → ℕ → ℕ → ℕ → List ℤ → List ℤ
-planePut b from wide high stride at planes = span (puttingRow b from wide stride at) 0 high planes
+-- all rows of a plane
+unfoldable pub putPlane : List ℕ → ℕ → ℕ → ℕ → ℕ → ℕ → List ℤ → List ℤ
+putPlane b from wide high stride at planes = span (putPlaneRow b from wide stride at) 0 high planes
 
--- the planes of a file with n tile columns, each slot's in its place; a slot that has none keeps what is there
-abbrev pub puttingPlane : List ℕ → List Bool → ℕ → ℕ → ℕ → ℕ → ℕ → List ℤ → List ℤ
-puttingPlane b held n wide high stride k planes = cond (getD held k false) (planePut b (planeAt held n wide high k) wide high stride (k * (6 * (high * stride))) planes) planes
+-- slot k's plane, where it is in the file, goes to where a load looks for it: behind k planes of high * stride blocks. Else what stands there stays
+abbrev pub putPresent : List ℕ → List Bool → ℕ → ℕ → ℕ → ℕ → ℕ → List ℤ → List ℤ
+putPresent b present n wide high stride k planes = cond (getD present k false) (putPlane b (planeAt present n wide high k) wide high stride (k * (6 * (high * stride))) planes) planes
 
-unfoldable pub planesPut : List ℕ → List Bool → ℕ → ℕ → ℕ → ℕ → List ℤ → List ℤ
-planesPut b held n wide high stride planes = span (puttingPlane b held n wide high stride) 0 7 planes
+-- all planes of a file with n tile columns
+unfoldable pub putPlanes : List ℕ → List Bool → ℕ → ℕ → ℕ → ℕ → List ℤ → List ℤ
+putPlanes b present n wide high stride planes = span (putPresent b present n wide high stride) 0 7 planes

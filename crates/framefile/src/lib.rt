@@ -3,14 +3,11 @@ ghost use mathlib.Core.Bool.{cond};
 ghost use mathlib.Core.Path.{_≡_};
 ghost use Prim.Native.Nat.{_+_, _*_, _≤_, _<_};
 ghost use lib.ListN.{length, take};
-ghost use Rattle.framefile.specs.File.{isOn, wordAt, hintsAt, savedAt, allSaved, switchesAt, pocsOf, headerOf, isFrameFile, endAt, endsOf, heldBefore, planeAt, rowPut, planePut, puttingPlane, planesPut};
+ghost use Rattle.framefile.specs.File.{isOn, wordAt, hintsAt, savedAt, allSaved, switchesAt, presentOf, pocsOf, headerOf, isFrameFile, endAt, endsOf, presentBefore, planeAt, putRow, putPlane, putPresent, putPlanes};
 use frame::Header;
 use levels::OrderHint;
 use picks::Pocs;
 use picks::Saved;
-
-// The bytes before the tile columns' ends.
-pub const HEAD: usize = 103;
 
 // A switch is on where it is not 0.
 pub fn is_on(b: u8) -> bool
@@ -19,7 +16,7 @@ pub fn is_on(b: u8) -> bool
     b != 0
 }
 
-fn wide(b: u8) -> u32
+fn as_u32(b: u8) -> u32
     ensures { λ r. ⌜ (r ≡ b) × (r ≤ 255) ⌝ }
 {
     b as u32
@@ -30,8 +27,8 @@ fn word_at(b: &[u8], at: usize) -> u32
     requires { ⌜ at + 4 ≤ length (now b) ⌝ }
     ensures { λ r. ⌜ r ≡ wordAt (now (b .entry)) at ⌝ }
 {
-    let low = wide(b[at]) + 256 * wide(b[at + 1]);
-    let high = wide(b[at + 2]) + 256 * wide(b[at + 3]);
+    let low = as_u32(b[at]) + 256 * as_u32(b[at + 1]);
+    let high = as_u32(b[at + 2]) + 256 * as_u32(b[at + 3]);
     low + 65536 * high
 }
 
@@ -73,7 +70,7 @@ fn all_saved(b: &[u8]) -> [Saved; 7]
     out
 }
 
-pub fn switches_at(b: &[u8], at: usize) -> [bool; 7]
+fn switches_at(b: &[u8], at: usize) -> [bool; 7]
     requires { ⌜ at + 7 ≤ length (now b) ⌝ }
     ensures { λ r. ⌜ r ≡ switchesAt (now (b .entry)) at ⌝ }
 {
@@ -83,6 +80,14 @@ pub fn switches_at(b: &[u8], at: usize) -> [bool; 7]
         out[i] = on;
     }
     out
+}
+
+// For each slot, whether its plane is in the file.
+pub fn present_of(b: &[u8]) -> [bool; 7]
+    requires { ⌜ 103 ≤ length (now b) ⌝ }
+    ensures { λ r. ⌜ r ≡ presentOf (now (b .entry)) ⌝ }
+{
+    switches_at(b, 93)
 }
 
 fn pocs_of(b: &[u8]) -> Pocs
@@ -117,7 +122,7 @@ pub fn header_of(b: &[u8]) -> Header
     let tip_frame_mode = b[26];
     let tip0 = text::signed_byte(b[27]);
     let tip1 = text::signed_byte(b[28]);
-    let rp_ref = switches_at(b, 93);
+    let rp_ref = present_of(b);
     let pocs = pocs_of(b);
     Header {
         width,
@@ -169,30 +174,30 @@ fn one_if(here: bool) -> usize
 }
 
 // How many of the slots below k have their plane in the file.
-fn held_before(held: [bool; 7], k: usize) -> usize
+fn present_before(present: [bool; 7], k: usize) -> usize
     requires { ⌜ k ≤ 7 ⌝ }
-    ensures { λ r. ⌜ (r ≡ heldBefore held k) × (r ≤ k) ⌝ }
+    ensures { λ r. ⌜ (r ≡ presentBefore present k) × (r ≤ k) ⌝ }
 {
     let mut n = 0;
     for i in 0..k {
-        n += one_if(held[i]);
+        n += one_if(present[i]);
     }
     n
 }
 
-// Where slot k's plane begins in a file with n tile columns; 7 is past the last.
-pub fn plane_at(held: [bool; 7], n: usize, wide: usize, high: usize, k: usize) -> usize
+// Where slot k's plane begins in a file with n tile columns; for k = 7, where the file ends.
+pub fn plane_at(present: [bool; 7], n: usize, wide: usize, high: usize, k: usize) -> usize
     requires { ⌜ (n ≤ 255) × (wide ≤ 256) × (high ≤ 256) × (k ≤ 7) ⌝ }
-    ensures { λ r. ⌜ r ≡ planeAt held n wide high k ⌝ }
+    ensures { λ r. ⌜ r ≡ planeAt present n wide high k ⌝ }
 {
     let bytes = 6 * (high * wide);
-    103 + 4 * n + held_before(held, k) * bytes
+    103 + 4 * n + present_before(present, k) * bytes
 }
 
 // A row of blocks goes to its place in the planes.
 pub fn put_row(line: &[u8], planes: &mut [i8], at: usize)
     requires { ⌜ at + length (now line) ≤ length (now planes) ⌝ }
-    ensures { λ _. ⌜ now (planes .exit) ≡ rowPut (now (line .entry)) at (now (planes .entry)) ⌝ }
+    ensures { λ _. ⌜ now (planes .exit) ≡ putRow (now (line .entry)) at (now (planes .entry)) ⌝ }
 {
     for i in 0..line.len() {
         let v = text::signed_byte(line[i]);
@@ -200,7 +205,7 @@ pub fn put_row(line: &[u8], planes: &mut [i8], at: usize)
     }
 }
 
-// A plane's rows, one behind the other from `from` on in the file, a stride apart in the planes.
+// A plane's rows, one behind the other from `from` on in the file, stride blocks apart in the planes.
 fn put_plane(
     b: &[u8],
     from: usize,
@@ -211,7 +216,7 @@ fn put_plane(
     at: usize,
 )
     requires { ⌜ (wide ≤ stride) × (stride ≤ 256) × (high ≤ 256) × (from + 6 * (high * wide) ≤ length (now b)) × (at + 6 * (high * stride) ≤ length (now planes)) ⌝ }
-    ensures { λ _. ⌜ now (planes .exit) ≡ planePut (now (b .entry)) from wide high stride at (now (planes .entry)) ⌝ }
+    ensures { λ _. ⌜ now (planes .exit) ≡ putPlane (now (b .entry)) from wide high stride at (now (planes .entry)) ⌝ }
 {
     for y in 0..high {
         let row = from + 6 * (y * wide);
@@ -221,9 +226,9 @@ fn put_plane(
 }
 
 // The plane of slot k, where a file with n tile columns has one.
-fn put_held(
+fn put_present(
     b: &[u8],
-    held: [bool; 7],
+    present: [bool; 7],
     n: usize,
     wide: usize,
     high: usize,
@@ -231,13 +236,13 @@ fn put_held(
     planes: &mut [i8],
     k: usize,
 )
-    requires { ⌜ (n ≤ 255) × (wide ≤ stride) × (stride ≤ 256) × (high ≤ 256) × (planeAt held n wide high 7 ≤ length (now b)) × (2752512 ≤ length (now planes)) × (k < 7) ⌝ }
-    ensures { λ _. ⌜ now (planes .exit) ≡ puttingPlane (now (b .entry)) held n wide high stride k (now (planes .entry)) ⌝ }
+    requires { ⌜ (n ≤ 255) × (wide ≤ stride) × (stride ≤ 256) × (high ≤ 256) × (planeAt present n wide high 7 ≤ length (now b)) × (2752512 ≤ length (now planes)) × (k < 7) ⌝ }
+    ensures { λ _. ⌜ now (planes .exit) ≡ putPresent (now (b .entry)) present n wide high stride k (now (planes .entry)) ⌝ }
 {
-    if !held[k] {
+    if !present[k] {
         return;
     }
-    let from = plane_at(held, n, wide, high, k);
+    let from = plane_at(present, n, wide, high, k);
     put_plane(
         b,
         from,
@@ -252,17 +257,17 @@ fn put_held(
 // The planes that a file with n tile columns has; the others stay as they were.
 pub fn put_planes(
     b: &[u8],
-    held: [bool; 7],
+    present: [bool; 7],
     n: usize,
     wide: usize,
     high: usize,
     stride: usize,
     planes: &mut [i8],
 )
-    requires { ⌜ (n ≤ 255) × (wide ≤ stride) × (stride ≤ 256) × (high ≤ 256) × (planeAt held n wide high 7 ≤ length (now b)) × (2752512 ≤ length (now planes)) ⌝ }
-    ensures { λ _. ⌜ now (planes .exit) ≡ planesPut (now (b .entry)) held n wide high stride (now (planes .entry)) ⌝ }
+    requires { ⌜ (n ≤ 255) × (wide ≤ stride) × (stride ≤ 256) × (high ≤ 256) × (planeAt present n wide high 7 ≤ length (now b)) × (2752512 ≤ length (now planes)) ⌝ }
+    ensures { λ _. ⌜ now (planes .exit) ≡ putPlanes (now (b .entry)) present n wide high stride (now (planes .entry)) ⌝ }
 {
     for k in 0..7 {
-        put_held(b, held, n, wide, high, stride, planes, k);
+        put_present(b, present, n, wide, high, stride, planes, k);
     }
 }

@@ -6,10 +6,16 @@ use Prim.Native.Nat.{ℕ, _≤_, _<_}
 use lib.Dec.{eqb, ltb}
 use lib.ListN.{length}
 use borrow.Author.Tests.{lt-ltb, le-ltb, eq-eqb, ne-eqb}
+use Rattle.frame.specs.declared.Said.{Said}
+use Rattle.frame.specs.declared.Said.the-variants.{Accepted, TooManyBits, TooManySlots, BadSuperblock, BadStep, BadSize, BadTipSlot}
+use Rattle.frame.specs.Frame.{numberOf}
+use Rattle.checks.specs.declared.LoadAnswer.{LoadAnswer}
+use Rattle.checks.specs.declared.LoadAnswer.the-variants.{Loaded, SetupOutOfRange, TileOutOfRange, TooShort as Short, ContentsOutOfRange}
+use Rattle.checks.specs.Code.{numberOf as answerNumber}
 use Rattle.load.specs.Load.{wideOf}
 use Rattle.framefile.specs.File.{isFrameFile}
 use Rattle.show_field.specs.declared.problems.Problem.the-variants.{Nothing, TooShort, NotAFrameFile, Setup, TooLarge, TileColumns, TooLong, Load}
-use Rattle.show_field.specs.Shown.{columnsOf, setupNumber, frameOf, endOf, badColumns, loadedOf, loadProblem, restProblem, problemOf}
+use Rattle.show_field.specs.Shown.{columnsOf, setupNumber, fileFrame, endOf, badColumns, loadedOf, saidOf, answerOf, loadProblem, restProblem, problemOf}
 
 module _ (b : List ℕ) where
   -- the head
@@ -23,22 +29,22 @@ module _ (b : List ℕ) where
     no-file h = rw (le-ltb (length b) 103 long, h) refl
 
     module _ (file : isFrameFile b ≡ true) where
-      pub no-setup : (setupNumber b ≡ 0 → ⊥) → problemOf b ≡ Setup (setupNumber b)
+      pub no-setup : (setupNumber b ≡ 0 → ⊥) → problemOf b ≡ Setup (saidOf (setupNumber b))
       unfolding problemOf
       no-setup h = rw (le-ltb (length b) 103 long, file, ne-eqb (setupNumber b) 0 h) refl
 
       module _ (setup : setupNumber b ≡ 0) where
-        pub too-wide : 2048 < frameOf b .width → problemOf b ≡ TooLarge
+        pub too-wide : 2048 < fileFrame b .width → problemOf b ≡ TooLarge
         unfolding problemOf
-        too-wide h = rw (le-ltb (length b) 103 long, file, eq-eqb (setupNumber b) 0 setup, lt-ltb 2048 (frameOf b .width) h) refl
+        too-wide h = rw (le-ltb (length b) 103 long, file, eq-eqb (setupNumber b) 0 setup, lt-ltb 2048 (fileFrame b .width) h) refl
 
-        pub too-high : frameOf b .width ≤ 2048 → 2048 < frameOf b .height → problemOf b ≡ TooLarge
+        pub too-high : fileFrame b .width ≤ 2048 → 2048 < fileFrame b .height → problemOf b ≡ TooLarge
         unfolding problemOf
-        too-high w h = rw (le-ltb (length b) 103 long, file, eq-eqb (setupNumber b) 0 setup, le-ltb 2048 (frameOf b .width) w, lt-ltb 2048 (frameOf b .height) h) refl
+        too-high w h = rw (le-ltb (length b) 103 long, file, eq-eqb (setupNumber b) 0 setup, le-ltb 2048 (fileFrame b .width) w, lt-ltb 2048 (fileFrame b .height) h) refl
 
-        pub head-fine : frameOf b .width ≤ 2048 → frameOf b .height ≤ 2048 → problemOf b ≡ restProblem b
+        pub head-fine : fileFrame b .width ≤ 2048 → fileFrame b .height ≤ 2048 → problemOf b ≡ restProblem b
         unfolding problemOf
-        head-fine w h = rw (le-ltb (length b) 103 long, file, eq-eqb (setupNumber b) 0 setup, le-ltb 2048 (frameOf b .width) w, le-ltb 2048 (frameOf b .height) h) refl
+        head-fine w h = rw (le-ltb (length b) 103 long, file, eq-eqb (setupNumber b) 0 setup, le-ltb 2048 (fileFrame b .width) w, le-ltb 2048 (fileFrame b .height) h) refl
 
   -- what is behind it
   pub rest-short : length b < endOf b → restProblem b ≡ TooShort
@@ -46,11 +52,11 @@ module _ (b : List ℕ) where
   rest-short h = rw (lt-ltb (length b) (endOf b) h) refl
 
   module _ (whole : endOf b ≤ length b) where
-    pub rest-columns : badColumns b (columnsOf b) (wideOf (frameOf b)) ≡ true → restProblem b ≡ TileColumns
+    pub rest-columns : badColumns b (columnsOf b) (wideOf (fileFrame b)) ≡ true → restProblem b ≡ TileColumns
     unfolding restProblem
     rest-columns h = rw (le-ltb (length b) (endOf b) whole, h) refl
 
-    module _ (columns : badColumns b (columnsOf b) (wideOf (frameOf b)) ≡ false) where
+    module _ (columns : badColumns b (columnsOf b) (wideOf (fileFrame b)) ≡ false) where
       pub rest-long : endOf b < length b → restProblem b ≡ TooLong
       unfolding restProblem
       rest-long h = rw (le-ltb (length b) (endOf b) whole, columns, lt-ltb (endOf b) (length b) h) refl
@@ -60,10 +66,27 @@ module _ (b : List ℕ) where
       rest-fine h = rw (le-ltb (length b) (endOf b) whole, columns, le-ltb (endOf b) (length b) h) refl
 
   -- the loads
-  pub load-refused : (n : ℕ) → n ≡ loadedOf b .number → (n ≡ 0 → ⊥) → loadProblem b ≡ Load n
+  pub load-refused : (n : ℕ) → n ≡ loadedOf b .number → (n ≡ 0 → ⊥) → loadProblem b ≡ Load (answerOf n)
   unfolding loadProblem
   load-refused n e h = rw (← e, ne-eqb n 0 h) refl
 
   pub load-fine : (n : ℕ) → n ≡ loadedOf b .number → n ≡ 0 → loadProblem b ≡ Nothing
   unfolding loadProblem
   load-fine n e h = rw (← e, eq-eqb n 0 h) refl
+
+-- an answer by its number
+pub said-as : (s : Said) → saidOf (numberOf s) ≡ s
+said-as Accepted = refl
+said-as TooManyBits = refl
+said-as TooManySlots = refl
+said-as BadSuperblock = refl
+said-as BadStep = refl
+said-as BadSize = refl
+said-as BadTipSlot = refl
+
+pub answer-as : (a : LoadAnswer) → answerOf (answerNumber a) ≡ a
+answer-as Loaded = refl
+answer-as SetupOutOfRange = refl
+answer-as TileOutOfRange = refl
+answer-as Short = refl
+answer-as ContentsOutOfRange = refl

@@ -1,4 +1,4 @@
--- What the program's arguments ask for (docs/FRAME_FILE.md). What the arguments are, no definition can say. Assumes nothing.
+-- What the program's arguments ask for (docs/FRAME_FILE.md). Which arguments the program gets, `os::arg` answers; nothing is proved of that. Assumes nothing.
 use mathlib.Core.Bool.{Bool, true, false, cond, _&&_}
 use mathlib.Core.List.{List, [], _∷_}
 use Prim.Native.Nat.{ℕ}
@@ -20,7 +20,7 @@ isWord [] (y ∷ b) = false
 isWord (x ∷ a) [] = false
 isWord (x ∷ a) (y ∷ b) = eqb x y && isWord a b
 
--- what count arguments ask for, the program's own name among them, the first behind it arg: none is for text, and more than one for the usage
+-- count: how many arguments there are, with the program's own name; arg: the first after the name. None asks for text, more than one for the usage's line
 unfoldable pub asked : ℕ → List ℕ → Wanted
 asked count arg =
     cond (ltb count 2) Text

@@ -4,13 +4,12 @@ use Prim.Native.Nat.{ℕ, zero, suc, _+_, _*_, _/_}
 use lib.IntN.{ℤ}
 use Rattle.frame.specs.declared.Frame.{Frame}
 use Rattle.load.specs.Load.{wideOf, highOf, strideOf}
-use Rattle.text.specs.Put.{joined}
 use Rattle.show.specs.Text.{rowText}
 use Rattle.show.specs.Picture.{rowPixels, headText}
 use Rattle.show_field.specs.declared.Wanted.{Wanted}
 use Rattle.show_field.specs.declared.Wanted.the-variants.{Text, Picture, Usage}
 
--- how many parts there are: of a text the rows of cells, of a picture its head and the rows of pixels
+-- how many parts there are: of a text the rows of cells, of a picture its head and the rows of pixels; for the usage's line nothing is loaded
 abbrev pub partsOf : Wanted → Frame → ℕ
 partsOf Text f = highOf f
 partsOf Picture f = f .height + 1
@@ -26,7 +25,3 @@ abbrev pub partOf : Wanted → Frame → List ℤ → List ℤ → List ℕ → 
 partOf Text f ys xs refs k = rowText ys xs refs (k * strideOf f) k (wideOf f)
 partOf Picture f ys xs refs k = picturePart f ys xs k
 partOf Usage f ys xs refs k = []
-
--- all of it
-unfoldable pub outputOf : Wanted → Frame → List ℤ → List ℤ → List ℕ → List ℕ
-outputOf w f ys xs refs = joined (partOf w f ys xs refs) (partsOf w f) 0

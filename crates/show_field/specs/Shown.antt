@@ -7,12 +7,16 @@ use Prim.Native.Nat.{ℕ, _-_}
 use lib.Dec.{eqb, ltb}
 use lib.IntN.{ℤ, pos}
 use lib.ListN.{length, replicate}
-use Rattle.levels.specs.Vector.{empty, mark}
+use Rattle.levels.specs.Vector.{empty}
 use Rattle.frame.specs.declared.Frame.{Frame}
+use Rattle.frame.specs.declared.Said.{Said}
+use Rattle.frame.specs.declared.Said.the-variants.{Accepted, TooManyBits, TooManySlots, BadSuperblock, BadStep, BadSize, BadTipSlot}
 use Rattle.frame.specs.Frame.{setupOf}
-use Rattle.store.specs.Store.{Store, pack}
+use Rattle.checks.specs.declared.LoadAnswer.{LoadAnswer}
+use Rattle.checks.specs.declared.LoadAnswer.the-variants.{Loaded, SetupOutOfRange, TileOutOfRange, TooShort as Short, ContentsOutOfRange}
+use Rattle.store.specs.Store.{Store, pack, noMap}
 use Rattle.load.specs.Load.{wideOf, highOf, strideOf}
-use Rattle.framefile.specs.File.{byteAt, isOn, headerOf, isFrameFile, switchesAt, endAt, endsOf, planeAt, planesPut}
+use Rattle.framefile.specs.File.{byteAt, isOn, headerOf, isFrameFile, presentOf, endAt, endsOf, planeAt, putPlanes}
 use Rattle.loads.specs.Frame.{After, frameCalls, untilRefused}
 use Rattle.show_field.specs.declared.problems.Problem.{Problem}
 use Rattle.show_field.specs.declared.problems.Problem.the-variants.{Nothing, TooShort, NotAFrameFile, Setup, TooLarge, TileColumns, TooLong, Load, NotWritten}
@@ -21,63 +25,72 @@ use Rattle.show_field.specs.declared.problems.Problem.the-variants.{Noth
 abbrev pub columnsOf : List ℕ → ℕ
 columnsOf b = byteAt b 102
 
--- the number of the setup's refusal, and the frame that the header sets up
+-- the number of the setup's refusal, or 0; and the frame that the header sets up, all zeros where it is refused
 abbrev pub setupNumber : List ℕ → ℕ
 setupNumber b = setupOf (headerOf b) .refusal
 
-abbrev pub frameOf : List ℕ → Frame
-frameOf b = setupOf (headerOf b) .frame
+abbrev pub fileFrame : List ℕ → Frame
+fileFrame b = setupOf (headerOf b) .frame
 
 -- "the file ends with the last plane"
 abbrev pub endOf : List ℕ → ℕ
-endOf b = planeAt (switchesAt b 93) (columnsOf b) (wideOf (frameOf b)) (highOf (frameOf b)) 7
+endOf b = planeAt (presentOf b) (columnsOf b) (wideOf (fileFrame b)) (highOf (fileFrame b)) 7
 
 -- "no tile columns, or the last end is not W"
 abbrev pub badColumns : List ℕ → ℕ → ℕ → Bool
 badColumns b n wide = eqb n 0 || not (eqb (endAt b (n - 1)) wide)
 
--- the planes, in room for seven of 256 x 256 blocks; what no plane of the file fills is 0
+-- the file's planes, in 2752512 bytes: room for seven of 256 x 256 blocks. Bytes that no plane fills are 0
 unfoldable pub planesOf : List ℕ → List ℤ
-planesOf b = planesPut b (switchesAt b 93) (columnsOf b) (wideOf (frameOf b)) (highOf (frameOf b)) (strideOf (frameOf b)) (replicate 2752512 (pos 0))
+planesOf b = putPlanes b (presentOf b) (columnsOf b) (wideOf (fileFrame b)) (highOf (fileFrame b)) (strideOf (fileFrame b)) (replicate 2752512 (pos 0))
 
--- "The store is empty before the first load", in room for 256 x 256 cells
+-- "The store is empty before the first load": a field of 256 x 256 cells, seven times 32 x 256 trajectories, three times as many map cells
 unfoldable pub emptyStore : Store
 emptyStore =
-    pack (replicate 65536 (empty .y)) (replicate 65536 (empty .x)) (replicate 65536 0) (replicate 57344 (empty .y)) (replicate 57344 (empty .x)) (replicate 172032 (mark .y)) (replicate 172032 (mark .x))
+    pack (replicate 65536 (empty .y)) (replicate 65536 (empty .x)) (replicate 65536 0) (replicate 57344 (empty .y)) (replicate 57344 (empty .x)) (replicate 172032 (noMap .y)) (replicate 172032 (noMap .x))
 
--- every tile is loaded, up to the first that is refused: its number, or 0, and the store then
+-- the loads of all tiles, from the empty store
 unfoldable pub loadedOf : List ℕ → After
-loadedOf b = untilRefused (frameCalls (frameOf b) (isOn (byteAt b 100)) (isOn (byteAt b 101)) (planesOf b) (endsOf b (columnsOf b))) emptyStore
+loadedOf b = untilRefused (frameCalls (fileFrame b) (isOn (byteAt b 100)) (isOn (byteAt b 101)) (planesOf b) (endsOf b (columnsOf b))) emptyStore
 
--- "A file that cannot be shown": "The first that holds", in three parts: of the head, of the length and the tile columns, of the loads
+-- the answer of each number
+abbrev pub saidOf : ℕ → Said
+saidOf n = cond (eqb n 3) TooManyBits (cond (eqb n 4) TooManySlots (cond (eqb n 5) BadSuperblock (cond (eqb n 6) BadStep (cond (eqb n 7) BadSize (cond (eqb n 8) BadTipSlot Accepted)))))
+
+abbrev pub answerOf : ℕ → LoadAnswer
+answerOf n = cond (eqb n 9) SetupOutOfRange (cond (eqb n 10) TileOutOfRange (cond (eqb n 11) Short (cond (eqb n 12) ContentsOutOfRange Loaded)))
+
+-- "A file that cannot be shown", "The first that holds", the last tests first: the loads
 unfoldable pub loadProblem : List ℕ → Problem
-loadProblem b = cond (eqb (loadedOf b .number) 0) Nothing (Load (loadedOf b .number))
+loadProblem b = cond (eqb (loadedOf b .number) 0) Nothing (Load (answerOf (loadedOf b .number)))
 
+-- length and tile columns, then the loads
 unfoldable pub restProblem : List ℕ → Problem
 restProblem b =
     cond (ltb (length b) (endOf b)) TooShort
-    (cond (badColumns b (columnsOf b) (wideOf (frameOf b))) TileColumns
+    (cond (badColumns b (columnsOf b) (wideOf (fileFrame b))) TileColumns
     (cond (ltb (endOf b) (length b)) TooLong
     (loadProblem b)))
 
+-- head and setup, then the rest
 unfoldable pub problemOf : List ℕ → Problem
 problemOf b =
     cond (ltb (length b) 103) TooShort
     (cond (not (isFrameFile b)) NotAFrameFile
-    (cond (not (eqb (setupNumber b) 0)) (Setup (setupNumber b))
-    (cond (ltb 2048 (frameOf b .width)) TooLarge
-    (cond (ltb 2048 (frameOf b .height)) TooLarge
+    (cond (not (eqb (setupNumber b) 0)) (Setup (saidOf (setupNumber b)))
+    (cond (ltb 2048 (fileFrame b .width)) TooLarge
+    (cond (ltb 2048 (fileFrame b .height)) TooLarge
     (restProblem b)))))
 
--- what is told of a file with the problem p: that one; or, where it has none and the field could not be written, this
+-- r is what the program tells of a file whose problem is p: p; or NotWritten, if p is Nothing and a write failed (that one failed, no contract can say)
 abbrev pub Told : Problem → Problem → Type 0
 Told p r = (r ≡ p) ⊎ ((p ≡ Nothing) × (r ≡ NotWritten))
 
--- the field of a file that has no problem, and its frame: nothing else is written
+-- f, ys, xs and refs are the frame and the field of a file that has no problem: what is written is asked to be of such a one. Which bytes go out, no contract can say
 pub record FieldOfFile (f : Frame) (ys xs : List ℤ) (refs : List ℕ) : Type 0 where
   pub file : List ℕ
   pub fine : problemOf file ≡ Nothing
-  pub frame : f ≡ frameOf file
+  pub frame : f ≡ fileFrame file
   pub sameY : ys ≡ loadedOf file .store .fieldY
   pub sameX : xs ≡ loadedOf file .store .fieldX
   pub sameRef : refs ≡ loadedOf file .store .fieldRef

@@ -6,11 +6,10 @@ mod problems;
 mod write;
 
 ghost use mathlib.Core.Path.{_≡_};
-ghost use Prim.Native.Nat.{_+_, _*_, _≤_};
+ghost use Prim.Native.Nat.{_+_, _*_, _≤_, _<_};
 ghost use lib.ListN.{length};
-ghost use Rattle.framefile.specs.File.{byteAt};
 ghost use Rattle.show_field.specs.Asked.{asked};
-ghost use Rattle.show_field.specs.Shown.{frameOf, endOf, badColumns, loadProblem, restProblem, problemOf, Told};
+ghost use Rattle.show_field.specs.Shown.{fileFrame, endOf, badColumns, loadProblem, restProblem, problemOf, Told};
 use frame::Frame;
 use libc::STDIN_FILENO;
 use problems::Problem;
@@ -21,7 +20,7 @@ pub enum Wanted {
     Usage,
 }
 
-// What the program is asked for: by count arguments, its own name among them, the first behind it arg.
+// count: how many arguments there are, with the program's own name; arg: the first after the name.
 fn wanted_of(count: usize, arg: &[u8]) -> Wanted
     ensures { λ r. ⌜ r ≡ asked count (now (arg .entry)) ⌝ }
 {
@@ -40,24 +39,24 @@ fn wanted_of(count: usize, arg: &[u8]) -> Wanted
     Wanted::Usage
 }
 
-// Of an argument that is missing, or longer than 16 bytes, os::arg makes an empty one, which is no word.
+// For an argument that is missing, or longer than 16 bytes, os::arg answers length 0: neither word.
 fn asked() -> Wanted {
     let mut arg = [0u8; 16];
     let n = os::arg(1, &mut arg);
     wanted_of(os::arg_count(), &arg[..n])
 }
 
-// The field's buffers, for frames up to 2048 x 2048 pixels, the loads, and the field's way out.
+// Loads the field and writes it. The buffers hold frames up to 2048 x 2048 pixels.
 fn show_loaded(file: &[u8], f: Frame, w: Wanted) -> Problem
-    requires { ⌜ (problemOf (now file) ≡ loadProblem (now file)) × (f ≡ frameOf (now file)) × (f .width ≤ 2048) × (f .height ≤ 2048) × (endOf (now file) ≤ length (now file)) ⌝ }
+    requires { ⌜ (problemOf (now file) ≡ loadProblem (now file)) × (f ≡ fileFrame (now file)) × (f .width ≤ 2048) × (f .height ≤ 2048) × (endOf (now file) ≤ length (now file)) ⌝ }
     ensures { λ r. ⌜ Told (problemOf (now (file .entry))) r ⌝ }
 {
     let mut field_y = [levels::INVALID_MV; 65536];
     let mut field_x = [0i32; 65536];
     let mut field_ref = [0u8; 65536];
-    let refusal = from_file::load_field(file, f, &mut field_y, &mut field_x, &mut field_ref);
-    if refusal != 0 {
-        return Problem::Load(refusal);
+    let said = from_file::load_field(file, f, &mut field_y, &mut field_x, &mut field_ref);
+    if checks::number(said) != 0 {
+        return Problem::Load(said);
     }
     if !write::write_field(w, f, &field_y, &field_x, &field_ref) {
         return Problem::NotWritten;
@@ -65,7 +64,7 @@ fn show_loaded(file: &[u8], f: Frame, w: Wanted) -> Problem
     Problem::Nothing
 }
 
-// Do n tile columns not end at the frame's width?
+// Are there no tile columns, or does the last not end at the frame's width?
 fn bad_columns(file: &[u8], n: usize, wide: usize) -> bool
     requires { ⌜ (n ≤ 255) × (103 + 4 * n ≤ length (now file)) ⌝ }
     ensures { λ r. ⌜ r ≡ badColumns (now (file .entry)) n wide ⌝ }
@@ -76,15 +75,15 @@ fn bad_columns(file: &[u8], n: usize, wide: usize) -> bool
     framefile::end_at(file, n - 1) != wide
 }
 
-// A frame that is set up: what is behind the file's head.
+// The setup is accepted: tests of length and tile columns, then the loads.
 fn show_rest(file: &[u8], f: Frame, w: Wanted) -> Problem
-    requires { ⌜ (problemOf (now file) ≡ restProblem (now file)) × (f ≡ frameOf (now file)) × (f .width ≤ 2048) × (f .height ≤ 2048) × (103 ≤ length (now file)) ⌝ }
+    requires { ⌜ (problemOf (now file) ≡ restProblem (now file)) × (f ≡ fileFrame (now file)) × (f .width ≤ 2048) × (f .height ≤ 2048) × (103 ≤ length (now file)) ⌝ }
     ensures { λ r. ⌜ Told (problemOf (now (file .entry))) r ⌝ }
 {
     let n = from_file::columns_of(file);
     let wide = checks::wide_of(f);
-    let held = framefile::switches_at(file, 93);
-    let end = framefile::plane_at(held, n, wide, checks::high_of(f), 7);
+    let present = framefile::present_of(file);
+    let end = framefile::plane_at(present, n, wide, checks::high_of(f), 7);
     if file.len() < end {
         return Problem::TooShort;
     }
@@ -108,9 +107,8 @@ fn show(file: &[u8], w: Wanted) -> Problem
     }
     let setup = frame::init_frame(framefile::header_of(file));
     let said = setup.said;
-    let refusal = frame::number(said);
-    if refusal != 0 {
-        return Problem::Setup(refusal);
+    if frame::number(said) != 0 {
+        return Problem::Setup(said);
     }
     let f = setup.frame;
     if 2048 < f.width {
@@ -122,17 +120,24 @@ fn show(file: &[u8], w: Wanted) -> Problem
     show_rest(file, f, w)
 }
 
-// Room for the longest file of a frame that can be shown, and for a byte behind it. Its length is said here, so that no proof counts that far.
+// A function of its own: proofs take the length from its contract, and need not work out an array of that size.
 fn no_file() -> [u8; 2753636]
     ensures { λ r. ⌜ 2753636 ≡ length r ⌝ }
 {
     [0; 2753636]
 }
 
+// The longest file that is not too long has 255 tile columns and seven planes of 256 x 256 blocks; by one byte more a longer one is seen.
+fn show_input(w: Wanted, file: &mut [u8]) -> Problem
+    requires { ⌜ 103 + 4 * 255 + 7 * (6 * (256 * 256)) < length (now file) ⌝ }
+{
+    let n = io::read_full(STDIN_FILENO, file);
+    show(&file[..n], w)
+}
+
 fn run(w: Wanted) -> Problem {
     let mut file = no_file();
-    let n = io::read_full(STDIN_FILENO, &mut file);
-    show(&file[..n], w)
+    show_input(w, &mut file)
 }
 
 fn main() {

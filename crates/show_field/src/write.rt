@@ -1,4 +1,5 @@
-// A field's way to standard output, part by part. It stops where a write fails.
+// Writes a field to standard output: of a text a row of cells at a time, of a picture its head and then a row of pixels
+// at a time. It stops at the first write that fails.
 ghost use mathlib.Core.Path.{_≡_};
 ghost use Prim.Native.Nat.{_+_, _*_, _/_, _≤_, _<_};
 ghost use lib.ListN.{length};
@@ -85,7 +86,7 @@ fn put_part(
     }
 }
 
-// The first n bytes of out.
+// Writes the first n bytes of out; false where that fails.
 fn write_front(out: &[u8], n: usize) -> bool
     requires { ⌜ n ≤ length (now out) ⌝ }
 {
@@ -112,7 +113,7 @@ fn write_parts(
     true
 }
 
-// A row of 256 cells has at most 57 bytes for each.
+// 256 lines of at most 57 bytes; a row of 2048 pixels has 6144.
 pub fn write_field(w: Wanted, f: Frame, field_y: &[i32], field_x: &[i32], field_ref: &[u8]) -> bool
     requires { ⌜ FieldOfFile f (now «field_y») (now «field_x») (now «field_ref») × (f .width ≤ 2048) × (f .height ≤ 2048) × (65536 ≤ length (now «field_y»)) × (65536 ≤ length (now «field_x»)) × (65536 ≤ length (now «field_ref»)) ⌝ }
 {

@@ -52,8 +52,8 @@ shared-slice-read-signed-byte-2 c = search needs
 signed-byte-requires-2 : tie.Need-signed-byte-requires-2
 signed-byte-requires-2 c κs = search needs
 
-switches-at-requires : tie.Need-switches-at-requires
-switches-at-requires c κs = search needs
+present-of-requires : tie.Need-present-of-requires
+present-of-requires c κs = search needs
 
 pocs-of-requires : tie.Need-pocs-of-requires
 pocs-of-requires c κs = search needs
@@ -63,7 +63,7 @@ unfolding headerOf
 returns c =
     let f : SFits w8 (c .before .before .before .before .signed-byte .result) = search needs in
     let g : SFits w8 (c .before .before .signed-byte2 .result) = search needs in
-    simp back (rw (c .pocs-of .ensures, c .before .switches-at .ensures, c .before .before .signed-byte2 .ensures, c .before .before .before .before .signed-byte .ensures, c .before .before .before .before .before .before .before .is-on3 .ensures, c .before .before .before .before .before .before .before .before .before .is-on2 .ensures, c .before .before .before .before .before .before .before .before .before .before .before .before .before .is-on .ensures, c .before .before .before .before .before .before .before .before .before .before .before .before .before .before .before .word-at2 .ensures, c .before .before .before .before .before .before .before .before .before .before .before .before .before .before .before .before .word-at .ensures))
+    simp back (rw (c .pocs-of .ensures, c .before .present-of .ensures, c .before .before .signed-byte2 .ensures, c .before .before .before .before .signed-byte .ensures, c .before .before .before .before .before .before .before .is-on3 .ensures, c .before .before .before .before .before .before .before .before .before .is-on2 .ensures, c .before .before .before .before .before .before .before .before .before .before .before .before .before .is-on .ensures, c .before .before .before .before .before .before .before .before .before .before .before .before .before .before .before .word-at2 .ensures, c .before .before .before .before .before .before .before .before .before .before .before .before .before .before .before .before .word-at .ensures))
 
 pub header-of-spec : {M : Type 1} → statement M
 header-of-spec =
@@ -84,6 +84,6 @@ header-of-spec =
     signed-byte-requires
     shared-slice-read-signed-byte-2
     signed-byte-requires-2
-    switches-at-requires
+    present-of-requires
     pocs-of-requires
     returns)

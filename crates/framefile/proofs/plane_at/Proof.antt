@@ -20,18 +20,18 @@ mul-result c = search needs
 add-result : tie.Need-add-result
 add-result c = search needs
 
-held-before-requires : tie.Need-held-before-requires
-held-before-requires c κs = search needs
+present-before-requires : tie.Need-present-before-requires
+present-before-requires c κs = search needs
 
 mul-result-2 : tie.Need-mul-result-2
-mul-result-2 c = let s = c .before in omega (arith, planes-low (c .held-before .result) (s .args .wide) (s .args .high) (omega (arith, c .held-before .ensures, s .pre .3)) (s .pre .1) (s .pre .2))
+mul-result-2 c = let s = c .before in omega (arith, planes-low (c .present-before .result) (s .args .wide) (s .args .high) (omega (arith, c .present-before .ensures, s .pre .3)) (s .pre .1) (s .pre .2))
 
 add-result-2 : tie.Need-add-result-2
-add-result-2 c = let s = c .before in omega (arith, planes-low (c .held-before .result) (s .args .wide) (s .args .high) (omega (arith, c .held-before .ensures, s .pre .3)) (s .pre .1) (s .pre .2), s .pre .0)
+add-result-2 c = let s = c .before in omega (arith, planes-low (c .present-before .result) (s .args .wide) (s .args .high) (omega (arith, c .present-before .ensures, s .pre .3)) (s .pre .1) (s .pre .2), s .pre .0)
 
 returns : tie.Need-returns
 unfolding planeAt
-returns c = rw (c .held-before .ensures .0)
+returns c = rw (c .present-before .ensures .0)
 
 pub plane-at-spec : {M : Type 1} → statement M
 plane-at-spec =
@@ -41,7 +41,7 @@ plane-at-spec =
     mul-bytes-2
     mul-result
     add-result
-    held-before-requires
+    present-before-requires
     mul-result-2
     add-result-2
     returns)

@@ -5,14 +5,14 @@ use native.Mathlib.Omega.{arith}
 use lib.ListN.{length}
 use Rattle.loops.specs.Over.{span}
 use Rattle.loops.proofs.Turns.{turned, ended, row-within}
-use Rattle.framefile.specs.File.{rowPut, puttingRow, planePut}
+use Rattle.framefile.specs.File.{putRow, putPlaneRow, putPlane}
 use Rattle.framefile.proofs.Bounds.{cells-low}
 use borrow.Author.Needs.{needs}
 use Rattle.framefile.proofs.put_plane.Statement.{statement}
 use Rattle.framefile.proofs.put_plane.Tie as tie
 
 abbrev Inv-loop : tie.InvT-loop
-Inv-loop b from wide high stride planes₀ at y₀ planes y = (length planes ≡ length planes₀) × (span (puttingRow b from wide stride at) y high planes ≡ span (puttingRow b from wide stride at) 0 high planes₀)
+Inv-loop b from wide high stride planes₀ at y₀ planes y = (length planes ≡ length planes₀) × (span (putPlaneRow b from wide stride at) y high planes ≡ span (putPlaneRow b from wide stride at) 0 high planes₀)
 
 abbrev μ-loop : tie.MeasureT-loop
 μ-loop b from wide high stride planes₀ at y₀ planes y = high - y
@@ -69,13 +69,13 @@ loop-again c =
     let a = s .args in
     let row = a .from + 6 * (l .y * a .wide) in
     let e : row + 6 * a .wide - row ≡ 6 * a .wide = omega arith in
-    (search needs, turned (puttingRow (a .b .now) (a .from) (a .wide) (a .stride) (a .at)) (a .high) (l .y) (l .planes) _ _ (c .before .before .before .before .loop-test .taken) (rw e at (c .before .put-row .ensures)) (l .inv .1))
+    (search needs, turned (putPlaneRow (a .b .now) (a .from) (a .wide) (a .stride) (a .at)) (a .high) (l .y) (l .planes) _ _ (c .before .before .before .before .loop-test .taken) (rw e at (c .before .put-row .ensures)) (l .inv .1))
 
 same-length : tie.Need-same-length Inv-loop μ-loop
 same-length c = search needs
 
 returns : tie.Need-returns Inv-loop μ-loop
-unfolding planePut
+unfolding putPlane
 returns c = ended _ _ _ _ _ (c .loop-test .left) (c .before .loop .inv .1)
 
 pub put-plane-spec : {M : Type 1} → statement M

@@ -4,22 +4,22 @@ use Prim.Native.Nat.{_-_}
 use lib.ListN.{length}
 use Rattle.loops.specs.Over.{span}
 use Rattle.loops.proofs.Turns.{turned, ended}
-use Rattle.framefile.specs.File.{puttingPlane, planesPut}
+use Rattle.framefile.specs.File.{putPresent, putPlanes}
 use borrow.Author.Needs.{needs}
 use Rattle.framefile.proofs.put_planes.Statement.{statement}
 use Rattle.framefile.proofs.put_planes.Tie as tie
 
 abbrev Inv-loop : tie.InvT-loop
-Inv-loop b held n wide high stride planes₀ k₀ planes k = (length planes ≡ length planes₀) × (span (puttingPlane b held n wide high stride) k 7 planes ≡ span (puttingPlane b held n wide high stride) 0 7 planes₀)
+Inv-loop b present n wide high stride planes₀ k₀ planes k = (length planes ≡ length planes₀) × (span (putPresent b present n wide high stride) k 7 planes ≡ span (putPresent b present n wide high stride) 0 7 planes₀)
 
 abbrev μ-loop : tie.MeasureT-loop
-μ-loop b held n wide high stride planes₀ k₀ planes k = 7 - k
+μ-loop b present n wide high stride planes₀ k₀ planes k = 7 - k
 
 loop-holds : tie.Need-loop-holds Inv-loop μ-loop
 loop-holds c = (refl, refl)
 
-put-held-requires : tie.Need-put-held-requires Inv-loop μ-loop
-put-held-requires c κs = search needs
+put-present-requires : tie.Need-put-present-requires Inv-loop μ-loop
+put-present-requires c κs = search needs
 
 add-k : tie.Need-add-k Inv-loop μ-loop
 add-k c = search needs
@@ -31,13 +31,13 @@ loop-again : tie.Need-loop-again Inv-loop μ-loop
 loop-again c =
     let a = c .before .before .before .before .before .before .args in
     let l = c .before .before .before .before .loop in
-    (search needs, turned (puttingPlane (a .b .now) (a .held) (a .n) (a .wide) (a .high) (a .stride)) 7 (l .k) (l .planes) _ _ (c .before .before .before .loop-test .taken) (c .before .put-held .ensures) (l .inv .1))
+    (search needs, turned (putPresent (a .b .now) (a .present) (a .n) (a .wide) (a .high) (a .stride)) 7 (l .k) (l .planes) _ _ (c .before .before .before .loop-test .taken) (c .before .put-present .ensures) (l .inv .1))
 
 same-length : tie.Need-same-length Inv-loop μ-loop
 same-length c = search needs
 
 returns : tie.Need-returns Inv-loop μ-loop
-unfolding planesPut
+unfolding putPlanes
 returns c = ended _ _ _ _ _ (c .loop-test .left) (c .before .loop .inv .1)
 
 pub put-planes-spec : {M : Type 1} → statement M
@@ -47,7 +47,7 @@ put-planes-spec =
     Inv-loop
     μ-loop
     loop-holds
-    put-held-requires
+    put-present-requires
     add-k
     loop-less
     loop-again

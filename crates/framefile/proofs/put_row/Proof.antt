@@ -7,13 +7,13 @@ use mir.Val.{SFits}
 use Rattle.intops.proofs.Signed.{back}
 use Rattle.loops.specs.Over.{span}
 use Rattle.loops.proofs.Turns.{turned, ended}
-use Rattle.framefile.specs.File.{putting, rowPut}
+use Rattle.framefile.specs.File.{putByte, putRow}
 use borrow.Author.Needs.{needs}
 use Rattle.framefile.proofs.put_row.Statement.{statement}
 use Rattle.framefile.proofs.put_row.Tie as tie
 
 abbrev Inv-loop : tie.InvT-loop
-Inv-loop line planes₀ at i₀ i-end planes i = (length planes ≡ length planes₀) × (span (putting line at) i i-end planes ≡ span (putting line at) 0 i-end planes₀)
+Inv-loop line planes₀ at i₀ i-end planes i = (length planes ≡ length planes₀) × (span (putByte line at) i i-end planes ≡ span (putByte line at) 0 i-end planes₀)
 
 abbrev μ-loop : tie.MeasureT-loop
 μ-loop line planes₀ at i₀ i-end planes i = i-end - i
@@ -44,13 +44,13 @@ loop-again c =
     let s = c .before .before .before .before .before in
     let l = c .before .before .before .loop in
     let f : SFits w8 (c .signed-byte .result) = search needs in
-    (simp length-set (l .inv .0), simp back (turned (putting (s .args .line .now) (s .args .at)) (length (s .args .line .now)) (l .i) (l .planes) _ _ (c .before .before .loop-test .taken) (ap (set (l .planes) (s .args .at + l .i)) (c .signed-byte .ensures)) (l .inv .1)))
+    (simp length-set (l .inv .0), simp back (turned (putByte (s .args .line .now) (s .args .at)) (length (s .args .line .now)) (l .i) (l .planes) _ _ (c .before .before .loop-test .taken) (ap (set (l .planes) (s .args .at + l .i)) (c .signed-byte .ensures)) (l .inv .1)))
 
 same-length : tie.Need-same-length Inv-loop μ-loop
 same-length c = search needs
 
 returns : tie.Need-returns Inv-loop μ-loop
-unfolding rowPut
+unfolding putRow
 returns c = ended _ _ _ _ _ (c .loop-test .left) (c .before .loop .inv .1)
 
 pub put-row-spec : {M : Type 1} → statement M

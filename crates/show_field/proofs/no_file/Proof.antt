@@ -1,4 +1,4 @@
--- `show_field::no_file` meets its contract, by the law: no proof counts that far. Assumes nothing.
+-- `show_field::no_file` meets its contract, by the law of the length of equal elements. Assumes nothing.
 use mathlib.Core.Path.{sym}
 use Prim.Native.Nat.{ℕ}
 use lib.ListN.{length-replicate}

@@ -7,8 +7,9 @@ use borrow.Author.Tests.{not-true, not-false}
 use native.Mathlib.Omega.{arith}
 use Rattle.frame.specs.declared.Frame.{Frame}
 use Rattle.show_field.specs.declared.problems.Problem.the-variants.{Setup}
+use Rattle.show_field.specs.Shown.{saidOf}
 use Rattle.show_field.proofs.Parts.{setup-as}
-use Rattle.show_field.proofs.Tests.{head-short, no-file, no-setup, too-wide, too-high, head-fine}
+use Rattle.show_field.proofs.Tests.{head-short, no-file, no-setup, too-wide, too-high, head-fine, said-as}
 use Rattle.show_field.proofs.show.Statement.{statement}
 use Rattle.show_field.proofs.show.Tie as tie
 
@@ -38,7 +39,7 @@ returns-3 c =
     let file = sym (c .before .before .before .before .before .is-frame-file .ensures) ∙ not-false (c .before .before .before .before .before .is-frame-file .result) (c .before .before .before .before .if2 .left) in
     let e = setup-as f (c .before .before .before .header-of .result) (c .before .before .init-frame .result) (c .before .before .before .header-of .ensures) (c .before .before .init-frame .ensures) in
     let n = c .before .number .ensures ∙ e .0 in
-    inl (sym (no-setup f long file (λ z. c .if3 .taken (n ∙ z)) ∙ ap Setup (sym n)))
+    inl (sym (no-setup f long file (λ z. c .if3 .taken (n ∙ z)) ∙ ap Setup (ap saidOf (sym (e .0)) ∙ said-as (c .before .before .init-frame .result .said))))
 
 returns-4 : tie.Need-returns-4
 returns-4 c =

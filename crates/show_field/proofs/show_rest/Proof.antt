@@ -18,8 +18,8 @@ columns-of-requires c κs = search needs
 wide-of-requires : tie.Need-wide-of-requires
 wide-of-requires c κs = search needs
 
-switches-at-requires : tie.Need-switches-at-requires
-switches-at-requires c κs = search needs
+present-of-requires : tie.Need-present-of-requires
+present-of-requires c κs = search needs
 
 high-of-requires : tie.Need-high-of-requires
 high-of-requires c κs = search needs
@@ -30,33 +30,33 @@ plane-at-requires c κs = search needs
 returns : tie.Need-returns
 returns c =
     let s = c .before .before .before .before .before .before .before in
-    let e = c .before .plane-at .ensures ∙ end-as (s .args .file .now) (s .args .f) (s .pre .1) _ _ _ _ (c .before .before .before .switches-at .ensures) (c .before .before .before .before .before .columns-of .ensures .0) (c .before .before .before .before .wide-of .ensures) (c .before .before .high-of .ensures) in
+    let e = c .before .plane-at .ensures ∙ end-as (s .args .file .now) (s .args .f) (s .pre .1) _ _ _ _ (c .before .before .before .present-of .ensures) (c .before .before .before .before .before .columns-of .ensures .0) (c .before .before .before .before .wide-of .ensures) (c .before .before .high-of .ensures) in
     inl (sym (s .pre .0 ∙ rest-short (s .args .file .now) (omega (arith, e, c .if1 .taken))))
 
 bad-columns-requires : tie.Need-bad-columns-requires
 bad-columns-requires c κs =
     let s = c .before .before .before .before .before .before .before in
     let n = c .before .before .before .before .before .columns-of in
-    (n .ensures .1, omega (arith, c .before .plane-at .ensures, head-within (c .before .before .before .switches-at .result) (n .result) (c .before .before .before .before .wide-of .result) (c .before .before .high-of .result) 7, c .if1 .left))
+    (n .ensures .1, omega (arith, c .before .plane-at .ensures, head-within (c .before .before .before .present-of .result) (n .result) (c .before .before .before .before .wide-of .result) (c .before .before .high-of .result) 7, c .if1 .left))
 
 returns-2 : tie.Need-returns-2
 returns-2 c =
     let s = c .before .before .before .before .before .before .before .before .before in
-    let e = c .before .before .before .plane-at .ensures ∙ end-as (s .args .file .now) (s .args .f) (s .pre .1) _ _ _ _ (c .before .before .before .before .before .switches-at .ensures) (c .before .before .before .before .before .before .before .columns-of .ensures .0) (c .before .before .before .before .before .before .wide-of .ensures) (c .before .before .before .before .high-of .ensures) in
+    let e = c .before .before .before .plane-at .ensures ∙ end-as (s .args .file .now) (s .args .f) (s .pre .1) _ _ _ _ (c .before .before .before .before .before .present-of .ensures) (c .before .before .before .before .before .before .before .columns-of .ensures .0) (c .before .before .before .before .before .before .wide-of .ensures) (c .before .before .before .before .high-of .ensures) in
     let w = c .before .bad-columns .ensures ∙ columns-as (s .args .file .now) (s .args .f) (s .pre .1) _ _ (c .before .before .before .before .before .before .before .columns-of .ensures .0) (c .before .before .before .before .before .before .wide-of .ensures) in
     inl (sym (s .pre .0 ∙ rest-columns (s .args .file .now) (omega (arith, e, c .before .before .if1 .left)) (sym w ∙ c .if2 .taken)))
 
 returns-3 : tie.Need-returns-3
 returns-3 c =
     let s = c .before .before .before .before .before .before .before .before .before .before in
-    let e = c .before .before .before .before .plane-at .ensures ∙ end-as (s .args .file .now) (s .args .f) (s .pre .1) _ _ _ _ (c .before .before .before .before .before .before .switches-at .ensures) (c .before .before .before .before .before .before .before .before .columns-of .ensures .0) (c .before .before .before .before .before .before .before .wide-of .ensures) (c .before .before .before .before .before .high-of .ensures) in
+    let e = c .before .before .before .before .plane-at .ensures ∙ end-as (s .args .file .now) (s .args .f) (s .pre .1) _ _ _ _ (c .before .before .before .before .before .before .present-of .ensures) (c .before .before .before .before .before .before .before .before .columns-of .ensures .0) (c .before .before .before .before .before .before .before .wide-of .ensures) (c .before .before .before .before .before .high-of .ensures) in
     let w = c .before .before .bad-columns .ensures ∙ columns-as (s .args .file .now) (s .args .f) (s .pre .1) _ _ (c .before .before .before .before .before .before .before .before .columns-of .ensures .0) (c .before .before .before .before .before .before .before .wide-of .ensures) in
     inl (sym (s .pre .0 ∙ rest-long (s .args .file .now) (omega (arith, e, c .before .before .before .if1 .left)) (sym w ∙ c .before .if2 .left) (omega (arith, e, c .if3 .taken))))
 
 show-loaded-requires : tie.Need-show-loaded-requires
 show-loaded-requires c κs =
     let s = c .before .before .before .before .before .before .before .before .before .before in
-    let e = c .before .before .before .before .plane-at .ensures ∙ end-as (s .args .file .now) (s .args .f) (s .pre .1) _ _ _ _ (c .before .before .before .before .before .before .switches-at .ensures) (c .before .before .before .before .before .before .before .before .columns-of .ensures .0) (c .before .before .before .before .before .before .before .wide-of .ensures) (c .before .before .before .before .before .high-of .ensures) in
+    let e = c .before .before .before .before .plane-at .ensures ∙ end-as (s .args .file .now) (s .args .f) (s .pre .1) _ _ _ _ (c .before .before .before .before .before .before .present-of .ensures) (c .before .before .before .before .before .before .before .before .columns-of .ensures .0) (c .before .before .before .before .before .before .before .wide-of .ensures) (c .before .before .before .before .before .high-of .ensures) in
     let w = c .before .before .bad-columns .ensures ∙ columns-as (s .args .file .now) (s .args .f) (s .pre .1) _ _ (c .before .before .before .before .before .before .before .before .columns-of .ensures .0) (c .before .before .before .before .before .before .before .wide-of .ensures) in
     let whole : endOf (s .args .file .now) ≤ length (s .args .file .now) = omega (arith, e, c .before .before .before .if1 .left) in
     (s .pre .0 ∙ rest-fine (s .args .file .now) whole (sym w ∙ c .before .if2 .left) (omega (arith, e, c .if3 .left)), s .pre .1, s .pre .2, s .pre .3, whole)
@@ -70,7 +70,7 @@ show-rest-spec =
     (tie.spec
     columns-of-requires
     wide-of-requires
-    switches-at-requires
+    present-of-requires
     high-of-requires
     plane-at-requires
     returns

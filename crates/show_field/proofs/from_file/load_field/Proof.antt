@@ -5,9 +5,9 @@ use native.Mathlib.Omega.{arith}
 use borrow.Author.Needs.{needs}
 use lib.ListN.{length}
 use Rattle.io.proofs.Counting.{counts}
-use Rattle.show_field.specs.Shown.{columnsOf, frameOf}
+use Rattle.show_field.specs.Shown.{columnsOf, fileFrame}
 use Rattle.framefile.proofs.Planes.{head-within}
-use Rattle.framefile.specs.File.{switchesAt, endsOf}
+use Rattle.framefile.specs.File.{presentOf, endsOf}
 use Rattle.loads.specs.Frame.{After}
 use Rattle.show_field.proofs.Parts.{planes-as, loaded-as}
 use Rattle.load.specs.Load.{wideOf, highOf}
@@ -18,7 +18,7 @@ columns-of-requires : tie.Need-columns-of-requires
 columns-of-requires c κs =
     let s = c .before .before in
     let f = s .args .file .now in
-    let h = head-within (switchesAt f 93) (columnsOf f) (wideOf (frameOf f)) (highOf (frameOf f)) 7 in
+    let h = head-within (presentOf f) (columnsOf f) (wideOf (fileFrame f)) (highOf (fileFrame f)) 7 in
     omega (arith, h, s .pre .0 .3)
 
 slice-aggregate-read-ends : tie.Need-slice-aggregate-read-ends
@@ -28,14 +28,14 @@ read-ends-requires : tie.Need-read-ends-requires
 read-ends-requires c κs =
     let s = c .before .before .before .before in
     let f = s .args .file .now in
-    let h = head-within (switchesAt f 93) (columnsOf f) (wideOf (frameOf f)) (highOf (frameOf f)) 7 in
+    let h = head-within (presentOf f) (columnsOf f) (wideOf (fileFrame f)) (highOf (fileFrame f)) 7 in
     let n = c .before .columns-of .ensures in (n .1, omega (arith, h, n .0, s .pre .0 .3), n .1)
 
-switches-at-requires : tie.Need-switches-at-requires
-switches-at-requires c κs =
+present-of-requires : tie.Need-present-of-requires
+present-of-requires c κs =
     let s = c .before .before .before .before .before .before in
     let f = s .args .file .now in
-    let h = head-within (switchesAt f 93) (columnsOf f) (wideOf (frameOf f)) (highOf (frameOf f)) 7 in
+    let h = head-within (presentOf f) (columnsOf f) (wideOf (fileFrame f)) (highOf (fileFrame f)) 7 in
     omega (arith, h, s .pre .0 .3)
 
 no-planes-requires : tie.Need-no-planes-requires
@@ -57,18 +57,18 @@ put-planes-requires : tie.Need-put-planes-requires
 put-planes-requires c κs =
     let s = c .before .before .before .before .before .before .before .before .before .before .before .before in
     let f = s .args .file .now in
-    let h = head-within (switchesAt f 93) (columnsOf f) (wideOf (frameOf f)) (highOf (frameOf f)) 7 in
+    let h = head-within (presentOf f) (columnsOf f) (wideOf (fileFrame f)) (highOf (fileFrame f)) 7 in
     let wide = c .before .before .before .wide-of .ensures in
     let high = c .before .before .high-of .ensures in
     let stride = c .before .stride-of .ensures in
     let n = c .before .before .before .before .before .before .before .before .before .columns-of .ensures in
-    (n .1, omega (arith, wide, stride), omega (arith, stride, s .pre .0), omega (arith, high, s .pre .0), rw (c .before .before .before .before .before .switches-at .ensures, n .0, wide, high, s .pre .0 .0) (s .pre .0 .3), omega (arith, c .before .before .before .before .no-planes .ensures .1))
+    (n .1, omega (arith, wide, stride), omega (arith, stride, s .pre .0), omega (arith, high, s .pre .0), rw (c .before .before .before .before .before .present-of .ensures, n .0, wide, high, s .pre .0 .0) (s .pre .0 .3), omega (arith, c .before .before .before .before .no-planes .ensures .1))
 
 shared-slice-read-is-on : tie.Need-shared-slice-read-is-on
 shared-slice-read-is-on c =
     let s = c .before .before .before .before .before .before .before .before .before .before .before .before .before .before .before in
     let f = s .args .file .now in
-    let h : 103 ≤ length f = omega (arith, head-within (switchesAt f 93) (columnsOf f) (wideOf (frameOf f)) (highOf (frameOf f)) 7, s .pre .0 .3) in
+    let h : 103 ≤ length f = omega (arith, head-within (presentOf f) (columnsOf f) (wideOf (fileFrame f)) (highOf (fileFrame f)) 7, s .pre .0 .3) in
     search needs
 
 is-on-requires : tie.Need-is-on-requires
@@ -78,7 +78,7 @@ shared-slice-read-is-on-2 : tie.Need-shared-slice-read-is-on-2
 shared-slice-read-is-on-2 c =
     let s = c .before .before .before .before .before .before .before .before .before .before .before .before .before .before .before .before .before in
     let f = s .args .file .now in
-    let h : 103 ≤ length f = omega (arith, head-within (switchesAt f 93) (columnsOf f) (wideOf (frameOf f)) (highOf (frameOf f)) 7, s .pre .0 .3) in
+    let h : 103 ≤ length f = omega (arith, head-within (presentOf f) (columnsOf f) (wideOf (fileFrame f)) (highOf (fileFrame f)) 7, s .pre .0 .3) in
     search needs
 
 is-on-requires-2 : tie.Need-is-on-requires-2
@@ -111,7 +111,7 @@ returns c =
     let f = s .args .file .now in
     let fe = s .pre .0 .0 in
     let n = c .before .before .before .before .before .before .before .before .before .before .before .before .before .before .before .before .before .before .before .before .before .before .before .before .before .columns-of .ensures .0 in
-    let pe = c .before .before .before .before .before .before .before .before .before .before .before .before .before .before .before .put-planes .ensures ∙ planes-as f (s .args .f) fe _ _ _ _ _ _ (c .before .before .before .before .before .before .before .before .before .before .before .before .before .before .before .before .before .before .before .before .before .switches-at .ensures) n (c .before .before .before .before .before .before .before .before .before .before .before .before .before .before .before .before .before .before .before .wide-of .ensures) (c .before .before .before .before .before .before .before .before .before .before .before .before .before .before .before .before .before .before .high-of .ensures) (c .before .before .before .before .before .before .before .before .before .before .before .before .before .before .before .before .before .stride-of .ensures) (c .before .before .before .before .before .before .before .before .before .before .before .before .before .before .before .before .before .before .before .before .no-planes .ensures .0) in
+    let pe = c .before .before .before .before .before .before .before .before .before .before .before .before .before .before .before .put-planes .ensures ∙ planes-as f (s .args .f) fe _ _ _ _ _ _ (c .before .before .before .before .before .before .before .before .before .before .before .before .before .before .before .before .before .before .before .before .before .present-of .ensures) n (c .before .before .before .before .before .before .before .before .before .before .before .before .before .before .before .before .before .before .before .wide-of .ensures) (c .before .before .before .before .before .before .before .before .before .before .before .before .before .before .before .before .before .before .high-of .ensures) (c .before .before .before .before .before .before .before .before .before .before .before .before .before .before .before .before .before .stride-of .ensures) (c .before .before .before .before .before .before .before .before .before .before .before .before .before .before .before .before .before .before .before .before .no-planes .ensures .0) in
     let ee = c .before .before .before .before .before .before .before .before .before .before .before .before .before .before .before .before .before .before .before .before .before .before .before .read-ends .ensures ∙ ap (endsOf f) n in
     let e = loaded-as f (s .args .f) fe _ _ _ _ (c .before .before .before .before .before .before .before .before .before .before .before .before .is-on .ensures) (c .before .before .before .before .before .before .before .before .before .before .is-on2 .ensures) pe ee in
     let t = c .before .before .before .before .load-tiles .ensures in
@@ -124,7 +124,7 @@ load-field-spec =
     columns-of-requires
     slice-aggregate-read-ends
     read-ends-requires
-    switches-at-requires
+    present-of-requires
     no-planes-requires
     wide-of-requires
     high-of-requires

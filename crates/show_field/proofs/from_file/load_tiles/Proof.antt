@@ -22,9 +22,6 @@ slice-aggregate-load-frame-4 c = search needs
 load-frame-requires : tie.Need-load-frame-requires
 load-frame-requires c κs = search needs
 
-number-requires : tie.Need-number-requires
-number-requires c κs = search needs
-
 same-length : tie.Need-same-length
 same-length c = search needs
 
@@ -37,11 +34,11 @@ same-length-3 c = search needs
 returns : tie.Need-returns
 unfolding emptyStore
 returns c =
-    let s = c .before .before .before .before .before .before .before .before .before .before .before .before .before .before .before .before .before .before .before in
+    let s = c .before .before .before .before .before .before .before .before .before .before .before .before .before .before .before .before .before .before in
     let e : pack (s .args .field-y .now) (s .args .field-x .now) (s .args .field-ref .now) (emptyStore .trajY) (emptyStore .trajX) (emptyStore .mapY) (emptyStore .mapX) ≡ emptyStore = rw (s .pre .1, s .pre .2, s .pre .3) refl in
-    let a = c .before .before .before .before .before .before .before .before .before .load-frame .ensures in
+    let a = c .before .before .before .before .before .before .before .before .load-frame .ensures in
     let w = a ∙ ap (untilRefused _) e in
-    (c .number .ensures ∙ ap (λ (t : After). t .number) w, ap (λ (t : After). t .store .fieldY) w, ap (λ (t : After). t .store .fieldX) w, ap (λ (t : After). t .store .fieldRef) w)
+    (ap (λ (t : After). t .number) w, ap (λ (t : After). t .store .fieldY) w, ap (λ (t : After). t .store .fieldX) w, ap (λ (t : After). t .store .fieldRef) w)
 
 pub load-tiles-spec : {M : Type 1} → statement M
 load-tiles-spec =
@@ -52,7 +49,6 @@ load-tiles-spec =
     slice-aggregate-load-frame-3
     slice-aggregate-load-frame-4
     load-frame-requires
-    number-requires
     same-length
     same-length-2
     same-length-3

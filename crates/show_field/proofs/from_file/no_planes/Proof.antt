@@ -1,4 +1,4 @@
--- `show_field::from_file::no_planes` meets its contract, by the law: no proof counts that far. Assumes nothing.
+-- `show_field::from_file::no_planes` meets its contract, by the law of the length of equal elements. Assumes nothing.
 use mathlib.Core.Path.{refl, sym}
 use lib.IntN.{pos}
 use lib.ListN.{length-replicate}

@@ -1,4 +1,4 @@
--- `framefile::put_held` meets its contract. Assumes nothing.
+-- `framefile::put_present` meets its contract. Assumes nothing.
 use mathlib.Core.Bool.{true, false}
 use mathlib.Core.Path.{_≡_}
 use Prim.Native.Nat.{_+_, _*_, _≤_}
@@ -9,8 +9,8 @@ use lib.ListN.{length, getD}
 use Rattle.loops.proofs.Turns.{row-within}
 use Rattle.framefile.proofs.Bounds.{cells-low}
 use Rattle.framefile.proofs.Planes.{plane-within}
-use Rattle.framefile.proofs.put_held.Statement.{statement}
-use Rattle.framefile.proofs.put_held.Tie as tie
+use Rattle.framefile.proofs.put_present.Statement.{statement}
+use Rattle.framefile.proofs.put_present.Tie as tie
 
 array-read-if1 : tie.Need-array-read-if1
 array-read-if1 c = search needs
@@ -44,8 +44,8 @@ same-length c = search needs
 returns-2 : tie.Need-returns-2
 returns-2 c = let a = c .before .before .before .before .before .before .args in let t : getD (a .t2) (a .k) false ≡ true = not-false (getD (a .t2) (a .k) false) (c .before .before .before .before .if1 .left) in rw t (rw (c .before .before .before .plane-at .ensures) at (c .before .put-plane .ensures))
 
-pub put-held-spec : {M : Type 1} → statement M
-put-held-spec =
+pub put-present-spec : {M : Type 1} → statement M
+put-present-spec =
     tie.close
     (tie.spec
     array-read-if1

@@ -1,23 +1,23 @@
--- `framefile::held_before` meets its contract. Assumes nothing.
+-- `framefile::present_before` meets its contract. Assumes nothing.
 use mathlib.Core.Bool.{false}
 use mathlib.Core.Path.{_≡_, refl, sym}
 use Prim.Native.Nat.{_+_, _-_, _≤_}
 use native.Mathlib.Omega.{arith}
 use lib.ListN.{getD}
-use Rattle.framefile.specs.File.{heldBefore}
-use Rattle.framefile.proofs.Planes.{held-more, one-low}
+use Rattle.framefile.specs.File.{presentBefore}
+use Rattle.framefile.proofs.Planes.{present-more, one-low}
 use borrow.Author.Needs.{needs}
-use Rattle.framefile.proofs.held_before.Statement.{statement}
-use Rattle.framefile.proofs.held_before.Tie as tie
+use Rattle.framefile.proofs.present_before.Statement.{statement}
+use Rattle.framefile.proofs.present_before.Tie as tie
 
 abbrev Inv-loop : tie.InvT-loop
-Inv-loop k held n₀ i₀ n i = (n ≡ heldBefore held i) × (n ≤ i) × (i ≤ k)
+Inv-loop k present n₀ i₀ n i = (n ≡ presentBefore present i) × (n ≤ i) × (i ≤ k)
 
 abbrev μ-loop : tie.MeasureT-loop
-μ-loop k held n₀ i₀ n i = k - i
+μ-loop k present n₀ i₀ n i = k - i
 
 loop-holds : tie.Need-loop-holds Inv-loop μ-loop
-unfolding heldBefore
+unfolding presentBefore
 loop-holds c = (refl, omega arith, omega arith)
 
 array-read-one-if : tie.Need-array-read-one-if Inv-loop μ-loop
@@ -40,7 +40,7 @@ loop-again c =
     let s = c .before .before .before in
     let l = c .before .before .loop in
     let g = getD (s .args .t1) (l .i) false in
-    let e : l .n + c .one-if .result ≡ heldBefore (s .args .t1) (l .i + 1) = rw (l .inv .0, c .one-if .ensures) (sym (held-more (s .args .t1) (l .i))) in
+    let e : l .n + c .one-if .result ≡ presentBefore (s .args .t1) (l .i + 1) = rw (l .inv .0, c .one-if .ensures) (sym (present-more (s .args .t1) (l .i))) in
     (e, omega (arith, c .one-if .ensures, one-low g, l .inv .1), omega (arith, c .before .loop-test .taken))
 
 returns : tie.Need-returns Inv-loop μ-loop
@@ -50,8 +50,8 @@ returns c =
     let e : l .i ≡ s .args .k = omega (arith, c .loop-test .left, l .inv .2) in
     (rw e at (l .inv .0), omega (arith, e, l .inv .1))
 
-pub held-before-spec : {M : Type 1} → statement M
-held-before-spec =
+pub present-before-spec : {M : Type 1} → statement M
+present-before-spec =
     tie.close
     (tie.spec
     Inv-loop
