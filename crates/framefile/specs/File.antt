@@ -75,6 +75,7 @@ isFrameFile b = eqb (byteAt b 0) 82 && eqb (byteAt b 1) 77 && eqb (byteAt b 2) 8
 abbrev pub endAt : List ℕ → ℕ → ℕ
 endAt b i = wordAt b (103 + 4 * i)
 
+-- those of n tile columns
 abbrev pub endsOf : List ℕ → ℕ → List ℕ
 endsOf b n = joined (λ i. endAt b i ∷ []) n 0
 
