@@ -1,10 +1,11 @@
 -- Laws of verdicts, and of numbers within their fields. Assumes nothing.
 use mathlib.Core.Bool.{Bool, true, false, not, true≢false}
 use mathlib.Core.Path.{_≡_, refl, sym, _∙_}
-use lib.IntN.{ℤ}
+use Prim.Native.Nat.{ℕ, _≤_}
+use lib.IntN.{ℤ, pos, natAbs}
 use lib.Signed.{ltZ}
 use borrow.Author.Tests.{not-false}
-use Rattle.intops.proofs.Signed.{signed}
+use Rattle.intops.proofs.Signed.{signed, ud}
 use Rattle.intops.specs.Choice.{pickZ, clipZ}
 use Rattle.cases.specs.Numbers.{Inside}
 use Rattle.cases.specs.Verdicts.{WhenTrue, WhenAgrees}
@@ -22,6 +23,11 @@ pub when-true : (b : Bool) {p q : Type 0} → (p → q) → WhenTrue b p → Whe
 when-true true f h = f h
 when-true false f h = tt
 
+-- what holds where a test came out true
+pub tested : (b : Bool) {p : Type 0} → (b ≡ true → p) → WhenTrue b p
+tested true f = f refl
+tested false f = tt
+
 -- a test that is true where p holds, and is false: p does not hold
 pub told-false : {b : Bool} {p : Type 0} → (p → b ≡ true) → b ≡ false → p → ⊥
 told-false f e h = true≢false (sym (f h) ∙ e)
@@ -38,3 +44,10 @@ clip-go low high z false false e f h = refl
 
 pub clip-inside : {low high z : ℤ} → Inside low high z → clipZ low high z ≡ z
 clip-inside {low} {high} {z} h = clip-go low high z (ltZ z low) (ltZ high z) refl refl h
+
+-- a number from 0 up to h has room in a usize, and its magnitude is at most h
+pub roomy : {h : ℕ} {z : ℤ} → h ≤ 9223372036854775807 → Inside (pos 0) (pos h) z → Inside (pos 0) (pos 9223372036854775807) z
+roomy {h} {z} l i = record { least = i .least; most = omega (signed, i .most, l) }
+
+pub size : {h : ℕ} {z : ℤ} → Inside (pos 0) (pos h) z → natAbs z ≤ h
+size {h} {z} i = omega (signed, i .least, i .most, ud z)

@@ -32,18 +32,7 @@ use Rattle.load_cases.specs.declared.Asked.{Asked}
 use Rattle.pass_cases.specs.PassCase.{PassNumbers, emptying, fieldPass, meeting, passOf, afterPass, Accepted, PassAgrees}
 use Rattle.pass_cases.specs.Code.{Ran}
 
--- what follows from a test that came out true
-pub tested : (b : Bool) {p : Type 0} → (b ≡ true → p) → WhenTrue b p
-tested true f = f refl
-tested false f = tt
-
--- ---- the numbers of a line: of usize, their size, and a vector's parts
-
-pub roomy : {h : ℕ} {z : ℤ} → h ≤ 9223372036854775807 → Inside (pos 0) (pos h) z → Inside (pos 0) (pos 9223372036854775807) z
-roomy {h} {z} l i = record { least = i .least; most = omega (signed, i .most, l) }
-
-pub size : {h : ℕ} {z : ℤ} → Inside (pos 0) (pos h) z → natAbs z ≤ h
-size {h} {z} i = omega (signed, i .least, i .most, ud z)
+-- ---- the numbers of a line: a vector's parts
 
 pub short : {z : ℤ} → Inside (negsuc 65534) (pos 65535) z → Is32 z × Within 65535 z
 short {z} i = (record { least = omega (signed, i .least); most = omega (signed, i .most) }, within-of z (omega (signed, i .least, i .most, ud z)))

@@ -11,9 +11,12 @@ use lib.ListN.{length, getD, take, drop, List·getD-eq-default}
 use lib.Seq.{take-at, take-all, length-take-le}
 use borrow.Author.Tests.{ltb-true, ltb-false, eq-eqb, ne-eqb}
 use Rattle.intops.proofs.Table.{at}
+use Rattle.cases.specs.declared.Verdict.{Verdict}
+use Rattle.cases.specs.declared.Verdict.the-variants.{Agrees, Differs, NotACase}
+use Rattle.cases.specs.Verdicts.{WhenAgrees}
 use Rattle.lines.specs.declared.State.{State}
 use Rattle.lines.specs.Line.{line, allRead, putIn, countedUp}
-use Rattle.replay.specs.Kinds.{names, name, agreed, running, ended, notACase, Holds, Taken, project, scale, quantize, dequantize, hint, smooth, gap, frame}
+use Rattle.replay.specs.Kinds.{names, name, agreed, running, ended, notACase, endOf, Holds, Taken, project, scale, quantize, dequantize, hint, smooth, gap, frame}
 
 past : {a k : ℕ} → a ≤ k → (k ≡ a → ⊥) → a + 1 ≤ k
 past h n = omega arith
@@ -67,6 +70,17 @@ some-kind (gap h) = omega arith
 some-kind (frame h) = omega arith
 
 -- ---- what is made of a line
+
+-- past a verdict the run goes on only if the case agrees, and no verdict is the input's end
+pub goes-on : {p : Type 0} (v : Verdict) → endOf v ≡ running → WhenAgrees v p → p
+goes-on Agrees e h = h
+goes-on Differs e h = absurd (omega arith)
+goes-on NotACase e h = absurd (omega arith)
+
+pub not-ended : (v : Verdict) → endOf v ≡ ended → ⊥
+not-ended Agrees e = omega arith
+not-ended Differs e = omega arith
+not-ended NotACase e = omega arith
 
 -- the reader found no line, or none that can be a case
 pub not-taken : (s : State) (w : List ℕ) (n : List ℤ) (t : List ℕ) → (s .found ≡ allRead → ⊥) → Taken s w n t t notACase

@@ -1,9 +1,11 @@
--- The kinds of cases, and what replay makes of a line. What is read and what is written, no definition can say. Assumes nothing.
+-- The kinds of cases, and what replay makes of a line. What is read, no definition can say; what is written, Report.antt says. Assumes nothing.
 use mathlib.Core.List.{List, [], _∷_}
 use mathlib.Core.Path.{_≡_}
 use Prim.Native.Nat.{ℕ, zero, suc, _+_, _%_, _^_}
 use lib.IntN.{ℤ}
 use lib.ListN.{getD, take}
+use Rattle.cases.specs.declared.Verdict.{Verdict}
+use Rattle.cases.specs.declared.Verdict.the-variants.{Agrees, Differs, NotACase}
 use Rattle.lines.specs.declared.State.{State}
 use Rattle.lines.specs.Line.{line, allRead, countedUp}
 use Rattle.leaf_cases.specs.Agrees.{ProjectAgrees, ScaleAgrees, QuantizeAgrees, DequantizeAgrees, HintAgrees, SmoothAgrees, GapAgrees}
@@ -43,15 +45,24 @@ unfoldable pub agreed : ℕ → List ℕ → ℕ
 agreed zero t = 0
 agreed (suc k) t = (agreed k t + getD t (suc k) 0) % 2 ^ 64
 
--- how a line leaves the run: it goes on, the input has ended, or what was read is no case; a case that differs is 2
+-- how a line leaves the run: it goes on, the input has ended, a case differs, or what was read is no case
 abbrev pub running : ℕ
 running = 0
 
 abbrev pub ended : ℕ
 ended = 1
 
+abbrev pub differs : ℕ
+differs = 2
+
 abbrev pub notACase : ℕ
 notACase = 3
+
+-- and what a verdict makes of the run
+abbrev pub endOf : Verdict → ℕ
+endOf Agrees = running
+endOf Differs = differs
+endOf NotACase = notACase
 
 -- the run goes on past a line of word w and numbers n: it is of a kind, holds, and is counted
 pub record GoesOn (w : List ℕ) (n : List ℤ) (before after : List ℕ) : Type 0 where

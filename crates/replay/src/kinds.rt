@@ -2,12 +2,15 @@
 // function in a crate of cases. There is room for 31 tallies.
 ghost use mathlib.Core.Bool.{true};
 ghost use mathlib.Core.Path.{_≡_};
-ghost use Prim.Native.Nat.{ℕ, _≤_, _<_, min};
+ghost use Prim.Native.Nat.{ℕ, _+_, _≤_, _<_, min};
 ghost use lib.ListN.{length};
 ghost use Rattle.io.specs.Counts.{Counts};
 ghost use Rattle.cases.specs.Verdicts.{WhenAgrees};
+ghost use Rattle.text.specs.Put.{Put};
 ghost use Rattle.lines.specs.Line.{putIn};
+ghost use Rattle.lines.specs.Report.{agreedText};
 ghost use Rattle.replay.specs.Kinds.{name, Holds, agreed};
+ghost use Rattle.replay.specs.Report.{kindsText};
 use cases::Verdict;
 use lines::report;
 
@@ -87,14 +90,31 @@ pub fn kind_of(word: &[u8]) -> usize
     NONE
 }
 
-fn print_kind(kind: usize, agreed: u64) {
+// Each put function writes its lines into out, and answers where they end.
+fn put_kind(kind: usize, agreed: u64, out: &mut [u8], at: usize) -> usize
+    requires { ⌜ at + 46 ≤ length (now out) ⌝ }
+    ensures { λ r. ⌜ Put (now (out .entry)) at 46 (agreedText (name kind) agreed) (now (out .exit)) r ⌝ }
+{
     let mut name = [0u8; 16];
     let n = put_name(kind, &mut name);
-    report::print_agreed(&name[..n], agreed);
+    report::put_agreed(&name[..n], agreed, out, at)
 }
 
-// Prints each kind's tally, and answers their sum.
-pub fn print_kinds(tallies: &[u64]) -> u64
+// Each kind's tally, from the front of out on.
+pub fn put_kinds(tallies: &[u64], out: &mut [u8]) -> usize
+    requires { ⌜ 368 ≤ length (now out) ⌝ }
+    ensures { λ r. ⌜ Put (now (out .entry)) 0 368 (kindsText (now (tallies .entry))) (now (out .exit)) r ⌝ }
+{
+    let mut at = 0;
+    for k in 0..KINDS {
+        let agreed = report::tally(tallies, k + 1);
+        at = put_kind(k + 1, agreed, out, at);
+    }
+    at
+}
+
+// The sum of the kinds' tallies.
+pub fn sum_of(tallies: &[u64]) -> u64
     ensures { λ r. ⌜ r ≡ agreed 8 (now (tallies .entry)) ⌝ }
 {
     let mut sum: u64 = 0;
@@ -102,7 +122,6 @@ pub fn print_kinds(tallies: &[u64]) -> u64
     while kind < KINDS {
         kind += 1;
         let agreed = report::tally(tallies, kind);
-        print_kind(kind, agreed);
         sum = std::num::wrapping_add_u64(sum, agreed);
     }
     sum

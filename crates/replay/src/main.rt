@@ -13,9 +13,13 @@
 // Ends at the first case that differs, or that cannot be read.
 ghost use mathlib.Core.Bool.{cond};
 ghost use mathlib.Core.Path.{_≡_};
+ghost use Prim.Native.Nat.{_+_, _≤_};
 ghost use lib.Dec.{eqb};
+ghost use lib.ListN.{length};
+ghost use Rattle.text.specs.Put.{Put};
 ghost use Rattle.lines.specs.Line.{countedUp};
-ghost use Rattle.replay.specs.Kinds.{Holds, Taken, running, ended};
+ghost use Rattle.replay.specs.Kinds.{Holds, Taken, running, ended, endOf};
+ghost use Rattle.replay.specs.Report.{endText, reportText};
 
 mod kinds;
 
@@ -32,17 +36,25 @@ const DIFFERS: usize = 2;
 
 const NOT_A_CASE: usize = 3;
 
-fn judged(kind: usize, numbers: &[i64], tallies: &mut [u64]) -> usize
-    ensures { λ r. ⌜ (r ≡ running → Holds (now (numbers .entry)) kind) × (now (tallies .exit) ≡ cond (eqb r running) (countedUp kind (now (tallies .entry))) (now (tallies .entry))) × (r ≡ ended → ⊥) ⌝ }
+fn end_of(v: Verdict) -> usize
+    ensures { λ r. ⌜ r ≡ endOf v ⌝ }
 {
-    match kinds::judge(kind, numbers) {
-        Verdict::Agrees => {
-            report::count_up(tallies, kind);
-            RUNNING
-        }
+    match v {
+        Verdict::Agrees => RUNNING,
         Verdict::Differs => DIFFERS,
         Verdict::NotACase => NOT_A_CASE,
     }
+}
+
+fn judged(kind: usize, numbers: &[i64], tallies: &mut [u64]) -> usize
+    ensures { λ r. ⌜ (r ≡ running → Holds (now (numbers .entry)) kind) × (now (tallies .exit) ≡ cond (eqb r running) (countedUp kind (now (tallies .entry))) (now (tallies .entry))) × (r ≡ ended → ⊥) ⌝ }
+{
+    let end = end_of(kinds::judge(kind, numbers));
+    if end != RUNNING {
+        return end;
+    }
+    report::count_up(tallies, kind);
+    end
 }
 
 fn take_line(s: State, word: &[u8], numbers: &[i64], tallies: &mut [u64]) -> usize
@@ -65,20 +77,40 @@ fn take_line(s: State, word: &[u8], numbers: &[i64], tallies: &mut [u64]) -> usi
     judged(kinds::kind_of(&word[0..letters]), &numbers[0..n], tallies)
 }
 
-fn print_end(ended: usize, s: State, word: &[u8], tallies: &[u64]) {
-    let sum = kinds::print_kinds(tallies);
-    let letters = s.letters;
+// The last line of the report.
+fn put_end(ended: usize, sum: u64, line: u64, word: &[u8], out: &mut [u8], at: usize) -> usize
+    requires { ⌜ (length (now word) ≤ 16) × (at + 52 ≤ length (now out)) ⌝ }
+    ensures { λ r. ⌜ Put (now (out .entry)) at 52 (endText ended sum line (now (word .entry))) (now (out .exit)) r ⌝ }
+{
     if ended == ALL_READ {
-        report::print_all_agree(sum);
-        return;
+        return report::put_all_agree(sum, out, at);
     }
     if ended == NOT_A_CASE {
-        report::print_why(s.line, b"not a case");
-        return;
+        return report::put_why(line, b"not a case", out, at);
     }
-    if letters <= word.len() {
-        report::print_differs(s.line, &word[0..letters]);
+    report::put_differs(line, word, out, at)
+}
+
+// The kinds' lines and the last. Of letters beyond the end of word there are none to show.
+fn put_report(ended: usize, s: State, word: &[u8], tallies: &[u64], out: &mut [u8]) -> usize
+    requires { ⌜ (length (now word) ≤ 16) × (420 ≤ length (now out)) ⌝ }
+    ensures { λ r. ⌜ Put (now (out .entry)) 0 420 (reportText ended s (now (word .entry)) (now (tallies .entry))) (now (out .exit)) r ⌝ }
+{
+    let sum = kinds::sum_of(tallies);
+    let last = kinds::put_kinds(tallies, out);
+    let letters = s.letters;
+    if word.len() < letters {
+        return put_end(ended, sum, s.line, word, out, last);
     }
+    put_end(ended, sum, s.line, &word[0..letters], out, last)
+}
+
+fn print_end(ended: usize, s: State, word: &[u8], tallies: &[u64])
+    requires { ⌜ (length (now word) ≤ 16) × (ended ≡ running → ⊥) ⌝ }
+{
+    let mut out = [0u8; 420];
+    let n = put_report(ended, s, word, tallies, &mut out);
+    text::write_front(&out, n);
 }
 
 // Makes the buffers once, and lends them. The turns are those of lines::next_line.

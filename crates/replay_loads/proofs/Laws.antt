@@ -15,8 +15,9 @@ use Rattle.cases.specs.Numbers.{at, isOn, Inside}
 use Rattle.cases.specs.Verdicts.{WhenTrue, WhenAgrees}
 use Rattle.kept_cases.specs.KeptCase.{CaseAgrees}
 use Rattle.replay_loads.specs.declared.book.Book.{Book}
-use Rattle.replay_loads.specs.Words.{names, name, Numbered}
-use Rattle.replay_loads.specs.Calls.{copied, differs, notALine, kindOf, left, tallied, MayCheck, Checked, counts, stops, Acted}
+use Rattle.replay_loads.specs.Words.{name, Numbered}
+use Rattle.replay_loads.specs.Calls.{copied, differs, notALine, passed, isFree, kindOf, left, tallied, SetLeaves, sets, setStops, NamedLeaves, names, namesNone, ChangeLeaves, changes, changeStops, MayCheck, Checked, counts, stops}
+use Rattle.replay_loads.specs.Lists.{Placed}
 
 -- the number of one of the seven words
 pub is-word : {w : List ℕ} (k : ℕ) → 0 < k → k ≤ 7 → w ≡ name k → Numbered w k
@@ -71,17 +72,19 @@ checked-as Agrees m a c j = counts m a (j .1) c (j .0)
 checked-as Differs m a c j = stops {why = differs} (omega arith) (j .1) (j .0)
 checked-as NotACase m a c j = stops {why = notALine} (omega arith) (j .1) (j .0)
 
--- ---- a line
+-- ---- a `set` and a `changed` line
 
--- of the words `case`, `set` and `changed`
-pub other : {b r : Book} {k l : ℕ} {n setup call cells want left : List ℤ} {t : List ℕ} (j : ℕ) → k ≡ j → 0 < j → j < 6 → (j ≡ 2 → ⊥) → (j ≡ 4 → ⊥) → Acted b k l n setup call cells want setup call left t t r
-other j e p m x y = record {
-  setsUp = λ f. absurd (omega arith);
-  begins = λ f. absurd (omega arith);
-  beginsPass = λ f. absurd (omega arith);
-  checks = λ f. absurd (omega arith);
-  unknown = λ f. absurd (omega arith);
-  sameSetup = λ f. refl;
-  sameCall = λ f g. refl;
-  uncounted = λ f. refl;
-}
+set-go : (b : Book) {r : Book} {n cells want l w : List ℤ} (f x y : Bool) → isFree b ≡ f → Placed x (b .lengths) n cells l → Placed y (b .lengths) n want w → r ≡ passed (f && (x && y)) b → SetLeaves b n cells want l w r
+set-go b true true true e p q h = sets (p .put refl .0) (p .put refl .1) (q .put refl .1) (h ∙ rw e refl)
+set-go b true true false e p q h = setStops h
+set-go b true false y e p q h = setStops h
+set-go b false true true e p q h = sets (p .put refl .0) (p .put refl .1) (q .put refl .1) (h ∙ rw e refl)
+set-go b false true false e p q h = setStops h
+set-go b false false y e p q h = setStops h
+
+pub set-as : (b : Book) {r : Book} {n cells want l w : List ℤ} (x y : Bool) → Placed x (b .lengths) n cells l → Placed y (b .lengths) n want w → r ≡ passed (isFree b && (x && y)) b → SetLeaves b n cells want l w r
+set-as b x y p q h = set-go b (isFree b) x y refl p q h
+
+pub change-as : {b r : Book} {n want w : List ℤ} (x : Bool) → Placed x (b .lengths) n want w → NamedLeaves b x r → ChangeLeaves b n want w r
+change-as x p (names e h) = changes (p .put e .0) (p .put e .1) h
+change-as x p (namesNone h) = changeStops h

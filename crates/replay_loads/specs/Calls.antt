@@ -1,11 +1,11 @@
 -- What replay_loads makes of a line: a call is counted only if a `check` line finds that it agrees. Assumes nothing.
-use mathlib.Core.Bool.{Bool, cond, _&&_}
+use mathlib.Core.Bool.{Bool, true, cond, _&&_}
 use mathlib.Core.List.{List}
 use mathlib.Core.Path.{_≡_}
-use Prim.Native.Nat.{ℕ, _<_, min}
+use Prim.Native.Nat.{ℕ, _+_, _<_, min}
 use lib.Dec.{eqb}
 use lib.IntN.{ℤ, pos, natAbs}
-use lib.ListN.{length, take}
+use lib.ListN.{length, take, getD}
 use Rattle.cases.specs.declared.Verdict.{Verdict}
 use Rattle.cases.specs.declared.Verdict.the-variants.{Agrees, Differs, NotACase}
 use Rattle.cases.specs.Numbers.{at, isOn, Inside}
@@ -14,12 +14,13 @@ use Rattle.lines.specs.Line.{line, allRead, putIn, countedUp}
 use Rattle.kept_cases.specs.KeptCase.{CaseAgrees}
 use Rattle.replay_loads.specs.declared.book.Book.{Book}
 use Rattle.replay_loads.specs.Words.{Numbered}
+use Rattle.replay_loads.specs.Lists.{cleared, Lies, linePut}
 
 -- the numbers n put at the front of a list, as many as fit
 abbrev pub copied : List ℤ → List ℤ → List ℤ
 copied n to = putIn (min (length n) (length to)) n to
 
--- how the run has ended, if it has; 4 is that a list has no room
+-- how the run has ended, if it has
 abbrev pub allTaken : ℕ
 allTaken = 1
 
@@ -28,6 +29,10 @@ differs = 2
 
 abbrev pub notALine : ℕ
 notALine = 3
+
+-- a list is longer than its room
+abbrev pub noRoom : ℕ
+noRoom = 4
 
 -- the book's fields in their order
 abbrev pub fields : ℕ → List ℕ → ℕ → ℕ → ℕ → ℕ → Book
@@ -89,19 +94,52 @@ pub data Checked (b : Book) (n setup call cells want left : List ℤ) (before af
   counts : MayCheck b n → CaseAgrees (b .lengths) cells want setup (take (b .call) call) → after ≡ countedUp (kindOf (b .call) call) before → left ≡ copied want cells → r ≡ checked b → Checked b n setup call cells want left before after r
   stops : {why : ℕ} → 0 < why → after ≡ before → r ≡ ended why b → Checked b n setup call cells want left before after r
 
+-- the first k lists have the lengths that a `case` line states
+abbrev pub LengthsStated : ℕ → List ℤ → List ℕ → Type 0
+LengthsStated k n lengths = (i : ℕ) → i < k → Inside (pos 0) (pos 9223372036854775807) (at n (i + 1)) → getD lengths i 0 ≡ natAbs (at n (i + 1))
+
+-- what a `case` line leaves of the book: a new one, with the lengths that it states; or the run ends
+pub data CaseLeaves (b : Book) (n : List ℤ) (r : Book) : Type 0 where
+  opens : length n ≡ 9 → r .ended ≡ 0 → r .setup ≡ 0 → r .call ≡ 0 → LengthsStated 8 n (r .lengths) → CaseLeaves b n r
+  opensNone : {why : ℕ} → 0 < why → r ≡ ended why b → CaseLeaves b n r
+
+-- elements were named as changed, d since the call
+abbrev pub named : ℕ → Book → Book
+named d b = fields (b .ended) (b .lengths) (b .setup) (b .call) (b .line) d
+
+-- what a `set` line leaves: the lists and the wanted ones have its values; or the run ends
+pub data SetLeaves (b : Book) (n cells want left want2 : List ℤ) (r : Book) : Type 0 where
+  sets : Lies (b .lengths) n → left ≡ linePut n cells → want2 ≡ linePut n want → r ≡ passed (isFree b) b → SetLeaves b n cells want left want2 r
+  setStops : r ≡ ended notALine b → SetLeaves b n cells want left want2 r
+
+-- what a `changed` line leaves of the book, if its values were put or not
+pub data NamedLeaves (b : Book) (isSet : Bool) (r : Book) : Type 0 where
+  names : {d : ℕ} → isSet ≡ true → r ≡ named d b → NamedLeaves b isSet r
+  namesNone : r ≡ ended notALine b → NamedLeaves b isSet r
+
+-- and of the wanted lists: they have its values; or the run ends
+pub data ChangeLeaves (b : Book) (n want want2 : List ℤ) (r : Book) : Type 0 where
+  changes : {d : ℕ} → Lies (b .lengths) n → want2 ≡ linePut n want → r ≡ named d b → ChangeLeaves b n want want2 r
+  changeStops : r ≡ ended notALine b → ChangeLeaves b n want want2 r
+
 -- what a line of word k, with the numbers n, leaves of the setup's and the call's numbers, the lists, the tallies and the book
-pub record Acted (b : Book) (k l : ℕ) (n setup call cells want setup2 call2 left : List ℤ) (before after : List ℕ) (r : Book) : Type 0 where
+pub record Acted (b : Book) (k l : ℕ) (n setup call cells want setup2 call2 left want2 : List ℤ) (before after : List ℕ) (r : Book) : Type 0 where
+  pub beginsCase : k ≡ 1 → CaseLeaves b n r × (left ≡ cleared cells) × (want2 ≡ cleared want)
   pub setsUp : k ≡ 2 → (r ≡ setupLeaves (length n) b) × (setup2 ≡ cond (isFree b) (copied n setup) setup)
   pub begins : k ≡ 4 → (r ≡ callLeaves 8 l (length n) b) × (call2 ≡ cond (isFree b && eqb (length n) 8) (copied n call) call)
+  pub setsLists : k ≡ 3 → SetLeaves b n cells want left want2 r
+  pub changesWant : k ≡ 5 → ChangeLeaves b n want want2 r
   pub beginsPass : k ≡ 7 → (r ≡ callLeaves 14 l (length n) b) × (call2 ≡ cond (isFree b && eqb (length n) 14) (copied n call) call)
   pub checks : k ≡ 6 → Checked b n setup call cells want left before after r
   pub unknown : k ≡ 0 → r ≡ ended notALine b
   pub sameSetup : (k ≡ 2 → ⊥) → setup2 ≡ setup
   pub sameCall : (k ≡ 4 → ⊥) → (k ≡ 7 → ⊥) → call2 ≡ call
+  pub sameLists : (k ≡ 1 → ⊥) → (k ≡ 3 → ⊥) → (k ≡ 6 → ⊥) → left ≡ cells
+  pub sameWant : (k ≡ 1 → ⊥) → (k ≡ 3 → ⊥) → (k ≡ 5 → ⊥) → want2 ≡ want
   pub uncounted : (k ≡ 6 → ⊥) → after ≡ before
 
 -- what is made of what the reader found: the line is taken, or the run ends
-pub data Taken (b : Book) (s : State) (w : List ℕ) (n setup call cells want setup2 call2 left : List ℤ) (before after : List ℕ) (r : Book) : Type 0 where
-  acts : {k : ℕ} → s .found ≡ line → Numbered (take (s .letters) w) k → Acted b k (s .line) (take (s .count) n) setup call cells want setup2 call2 left before after r → Taken b s w n setup call cells want setup2 call2 left before after r
-  ends : s .found ≡ allRead → after ≡ before → r ≡ ended (cond (isFree b) allTaken notALine) b → Taken b s w n setup call cells want setup2 call2 left before after r
-  refuses : (s .found ≡ allRead → ⊥) → after ≡ before → r ≡ ended notALine b → Taken b s w n setup call cells want setup2 call2 left before after r
+pub data Taken (b : Book) (s : State) (w : List ℕ) (n setup call cells want setup2 call2 left want2 : List ℤ) (before after : List ℕ) (r : Book) : Type 0 where
+  acts : {k : ℕ} → s .found ≡ line → Numbered (take (s .letters) w) k → Acted b k (s .line) (take (s .count) n) setup call cells want setup2 call2 left want2 before after r → Taken b s w n setup call cells want setup2 call2 left want2 before after r
+  ends : s .found ≡ allRead → after ≡ before → r ≡ ended (cond (isFree b) allTaken notALine) b → Taken b s w n setup call cells want setup2 call2 left want2 before after r
+  refuses : (s .found ≡ allRead → ⊥) → after ≡ before → r ≡ ended notALine b → Taken b s w n setup call cells want setup2 call2 left want2 before after r

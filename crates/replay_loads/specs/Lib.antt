@@ -1,2 +1,4 @@
 pub mod Words
+pub mod Lists
 pub mod Calls
+pub mod Report

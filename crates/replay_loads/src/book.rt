@@ -4,7 +4,7 @@ ghost use mathlib.Core.Path.{_≡_};
 ghost use lib.Dec.{eqb};
 ghost use lib.ListN.{length};
 ghost use Rattle.cases.specs.Verdicts.{WhenTrue};
-ghost use Rattle.replay_loads.specs.Calls.{allTaken, notALine, ended, checked, passed, isFree, copied, setupLeaves, callLeaves, MayCheck};
+ghost use Rattle.replay_loads.specs.Calls.{allTaken, notALine, ended, checked, passed, isFree, copied, setupLeaves, callLeaves, CaseLeaves, NamedLeaves, MayCheck};
 use crate::lists;
 
 // How the run has ended, if it has.
@@ -31,7 +31,9 @@ pub struct Book {
     pub changed: usize,
 }
 
-pub fn start() -> Book {
+pub fn start() -> Book
+    ensures { λ r. ⌜ (r .ended ≡ 0) × (r .setup ≡ 0) × (r .call ≡ 0) × (length (r .lengths) ≡ 8) ⌝ }
+{
     let lengths = [0usize; 8];
     Book {
         ended: RUNNING,
@@ -51,7 +53,9 @@ pub fn ended(mut b: Book, why: usize) -> Book
 }
 
 // A case: its number, and the lengths of its lists.
-pub fn case(b: Book, n: &[i64]) -> Book {
+pub fn case(b: Book, n: &[i64]) -> Book
+    ensures { λ r. ⌜ CaseLeaves b (now (n .entry)) r ⌝ }
+{
     let mut next = start();
     if b.call != 0 {
         return ended(b, NOT_A_LINE);
@@ -113,14 +117,19 @@ pub fn begin(mut b: Book, line: u64, count: usize, n: &[i64], call: &mut [i64]) 
 }
 
 // Elements of the store alone are changed, and after a call: list from count value..
-pub fn changed(mut b: Book, n: &[i64], is_set: bool) -> Book {
+pub fn changed(mut b: Book, n: &[i64], is_set: bool) -> Book
+    ensures { λ r. ⌜ NamedLeaves b «is_set» r ⌝ }
+{
     if n.len() < 3 {
         return ended(b, NOT_A_LINE);
     }
     if b.call == 0 {
         return ended(b, NOT_A_LINE);
     }
-    if (6 < n[0]) | !is_set {
+    if 6 < n[0] {
+        return ended(b, NOT_A_LINE);
+    }
+    if !is_set {
         return ended(b, NOT_A_LINE);
     }
     b.changed = std::num::wrapping_add_usize(b.changed, cases::to_usize(n[2]));

@@ -1,9 +1,15 @@
 // The lists of a case in one list of numbers (load_cases has the places where they begin).
 ghost use mathlib.Core.Path.{_≡_};
+ghost use Prim.Native.Nat.{_-_, _≤_, _<_};
+ghost use lib.ListN.{length};
+ghost use Rattle.cases.specs.Verdicts.{WhenTrue};
 ghost use Rattle.replay_loads.specs.Calls.{copied};
+ghost use Rattle.replay_loads.specs.Lists.{startOf, cleared, againAt, runPut, Lies, Placed};
 
 // Where a list begins; list 8 is past the last.
-fn start_of(list: usize) -> usize {
+fn start_of(list: usize) -> usize
+    ensures { λ r. ⌜ (r ≡ startOf list) × (r ≤ 95768) ⌝ }
+{
     match list {
         0 => load_cases::FIELD_Y,
         1 => load_cases::FIELD_X,
@@ -25,7 +31,9 @@ pub fn room_of(list: usize) -> usize {
     std::num::wrapping_sub_usize(start_of(list + 1), start_of(list))
 }
 
-pub fn clear(to: &mut [i64]) {
+pub fn clear(to: &mut [i64])
+    ensures { λ _. ⌜ now (to .exit) ≡ cleared (now (to .entry)) ⌝ }
+{
     for i in 0..to.len() {
         to[i] = 0;
     }
@@ -46,32 +54,35 @@ pub fn copy(n: &[i64], to: &mut [i64])
 }
 
 // The place k of n values, or the first where they are used up.
-fn again(k: usize, n: usize) -> usize {
+fn again(k: usize, n: usize) -> usize
+    ensures { λ r. ⌜ r ≡ againAt k n ⌝ }
+{
     if k < n { k } else { 0 }
 }
 
 // The elements from `from` up to `end` get the values, again and again in their order.
-fn put_run(values: &[i64], from: usize, end: usize, to: &mut [i64]) -> bool {
+fn put_run(values: &[i64], from: usize, end: usize, to: &mut [i64])
+    requires { ⌜ (0 < length (now values)) × (from ≤ end) × (end ≤ length (now to)) ⌝ }
+    ensures { λ _. ⌜ now (to .exit) ≡ runPut (now (values .entry)) 0 (end - from) from (now (to .entry)) ⌝ }
+{
     let mut at = from;
     let mut next = 0;
     while at < end {
         let k = again(next, values.len());
-        if values.len() <= k {
-            return false;
-        }
-        if to.len() <= at {
-            return false;
-        }
         to[at] = values[k];
         next = k + 1;
         at += 1;
     }
-    true
 }
 
-// The line's run of values (list from count value..) lies in its list, and is put there.
-pub fn put(lengths: [usize; 8], n: &[i64], to: &mut [i64]) -> bool {
+// Does the line's run of values (list from count value..) lie in its list, and are there no more values than elements?
+fn lies(lengths: [usize; 8], n: &[i64]) -> bool
+    ensures { λ r. ⌜ WhenTrue r (Lies lengths (now (n .entry))) ⌝ }
+{
     if n.len() < 4 {
+        return false;
+    }
+    if !cases::all_within(n, 0, 3, 0, 95768) {
         return false;
     }
     let list = cases::to_usize(n[0]);
@@ -87,10 +98,21 @@ pub fn put(lengths: [usize; 8], n: &[i64], to: &mut [i64]) -> bool {
     if length - from < count {
         return false;
     }
-    if count < n.len() - 3 {
+    n.len() - 3 <= count
+}
+
+// Where that is so, and the lists have room for it, the elements get the values.
+pub fn put(lengths: [usize; 8], n: &[i64], to: &mut [i64]) -> bool
+    ensures { λ r. ⌜ Placed r lengths (now (n .entry)) (now (to .entry)) (now (to .exit)) ⌝ }
+{
+    if !lies(lengths, n) {
         return false;
     }
-    let first = std::num::wrapping_add_usize(start_of(list), from);
-    let end = std::num::wrapping_add_usize(first, count);
-    put_run(&n[3..], first, end, to)
+    let first = start_of(cases::to_usize(n[0])) + cases::to_usize(n[1]);
+    let end = first + cases::to_usize(n[2]);
+    if to.len() < end {
+        return false;
+    }
+    put_run(&n[3..], first, end, to);
+    true
 }

@@ -16,9 +16,11 @@
 // a line that cannot stand where it is.
 ghost use mathlib.Core.Path.{_≡_};
 ghost use Rattle.replay_loads.specs.Words.{Numbered};
-ghost use Rattle.replay_loads.specs.Calls.{kindOf, left, tallied, Checked, Acted, Taken};
+ghost use Rattle.replay_loads.specs.Lists.{cleared};
+ghost use Rattle.replay_loads.specs.Calls.{kindOf, left, tallied, CaseLeaves, SetLeaves, ChangeLeaves, Checked, Acted, Taken};
 
 mod book;
+mod end;
 mod lists;
 
 use book::Book;
@@ -75,20 +77,26 @@ fn word_of(word: &[u8]) -> usize
     0
 }
 
-fn begin_case(b: Book, n: &[i64], cells: &mut [i64], want: &mut [i64]) -> Book {
+fn begin_case(b: Book, n: &[i64], cells: &mut [i64], want: &mut [i64]) -> Book
+    ensures { λ r. ⌜ CaseLeaves b (now (n .entry)) r × (now (cells .exit) ≡ cleared (now (cells .entry))) × (now (want .exit) ≡ cleared (now (want .entry))) ⌝ }
+{
     let next = book::case(b, n);
     lists::clear(cells);
     lists::clear(want);
     next
 }
 
-fn set(b: Book, n: &[i64], cells: &mut [i64], want: &mut [i64]) -> Book {
+fn set(b: Book, n: &[i64], cells: &mut [i64], want: &mut [i64]) -> Book
+    ensures { λ r. ⌜ SetLeaves b (now (n .entry)) (now (cells .entry)) (now (want .entry)) (now (cells .exit)) (now (want .exit)) r ⌝ }
+{
     let lengths = b.lengths;
     let is_set = lists::put(lengths, n, cells) & lists::put(lengths, n, want);
     book::set(b, is_set)
 }
 
-fn change(b: Book, n: &[i64], want: &mut [i64]) -> Book {
+fn change(b: Book, n: &[i64], want: &mut [i64]) -> Book
+    ensures { λ r. ⌜ ChangeLeaves b (now (n .entry)) (now (want .entry)) (now (want .exit)) r ⌝ }
+{
     let lengths = b.lengths;
     let is_set = lists::put(lengths, n, want);
     book::changed(b, n, is_set)
@@ -156,7 +164,7 @@ fn act(
     cells: &mut [i64],
     want: &mut [i64],
 ) -> Book
-    ensures { λ r. ⌜ Acted b word line (now (n .entry)) (now (setup .entry)) (now (call .entry)) (now (cells .entry)) (now (want .entry)) (now (setup .exit)) (now (call .exit)) (now (cells .exit)) (now (tallies .entry)) (now (tallies .exit)) r ⌝ }
+    ensures { λ r. ⌜ Acted b word line (now (n .entry)) (now (setup .entry)) (now (call .entry)) (now (cells .entry)) (now (want .entry)) (now (setup .exit)) (now (call .exit)) (now (cells .exit)) (now (want .exit)) (now (tallies .entry)) (now (tallies .exit)) r ⌝ }
 {
     match word {
         CASE => begin_case(b, n, cells, want),
@@ -181,7 +189,7 @@ fn take_line(
     cells: &mut [i64],
     want: &mut [i64],
 ) -> Book
-    ensures { λ r. ⌜ Taken b s (now (word .entry)) (now (numbers .entry)) (now (setup .entry)) (now (call .entry)) (now (cells .entry)) (now (want .entry)) (now (setup .exit)) (now (call .exit)) (now (cells .exit)) (now (tallies .entry)) (now (tallies .exit)) r ⌝ }
+    ensures { λ r. ⌜ Taken b s (now (word .entry)) (now (numbers .entry)) (now (setup .entry)) (now (call .entry)) (now (cells .entry)) (now (want .entry)) (now (setup .exit)) (now (call .exit)) (now (cells .exit)) (now (want .exit)) (now (tallies .entry)) (now (tallies .exit)) r ⌝ }
 {
     let letters = s.letters;
     let n = s.count;
@@ -211,37 +219,6 @@ fn take_line(
     )
 }
 
-fn print_differing(b: Book) {
-    if b.call == 14 {
-        report::print_differs(b.line, b"pass");
-        return;
-    }
-    report::print_differs(b.line, b"call");
-}
-
-fn print_end(b: Book, line: u64, tallies: &[u64]) {
-    let loads = report::tally(tallies, LOAD);
-    let refused = report::tally(tallies, REFUSED);
-    let passes = report::tally(tallies, ONE_PASS);
-    report::print_agreed(b"loads", loads);
-    report::print_agreed(b"refused loads", refused);
-    report::print_agreed(b"passes", passes);
-    if b.ended == book::DIFFERS {
-        print_differing(b);
-        return;
-    }
-    if b.ended == book::NO_ROOM {
-        report::print_why(line, b"no room for the lists of this case");
-        return;
-    }
-    if b.ended == book::NOT_A_LINE {
-        report::print_why(line, b"not a line that may stand here");
-        return;
-    }
-    let calls = std::num::wrapping_add_u64(loads, refused);
-    report::print_all_agree(std::num::wrapping_add_u64(calls, passes));
-}
-
 // Makes the buffers and the lists once, and lends them. The turns are those of lines::next_line.
 fn main() {
     let mut input = io::large_buffer();
@@ -269,7 +246,7 @@ fn main() {
             &mut want,
         );
         if b.ended != book::RUNNING {
-            print_end(b, s.line, &tallies);
+            end::print_end(b, s.line, &tallies);
             return;
         }
         turns -= 1;

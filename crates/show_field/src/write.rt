@@ -11,7 +11,6 @@ ghost use Rattle.show_field.specs.Output.{partsOf, picturePart, partOf};
 ghost use Rattle.show_field.specs.Shown.{FieldOfFile};
 use crate::Wanted;
 use frame::Frame;
-use libc::STDOUT_FILENO;
 
 fn parts_of(w: Wanted, f: Frame) -> usize
     requires { ⌜ f .height ≤ 2048 ⌝ }
@@ -86,13 +85,6 @@ fn put_part(
     }
 }
 
-// Writes the first n bytes of out; false where that fails.
-fn write_front(out: &[u8], n: usize) -> bool
-    requires { ⌜ n ≤ length (now out) ⌝ }
-{
-    io::write_all(STDOUT_FILENO, &out[..n])
-}
-
 // False where a write fails.
 fn write_parts(
     w: Wanted,
@@ -106,7 +98,7 @@ fn write_parts(
 {
     for k in 0..parts_of(w, f) {
         let end = put_part(w, f, k, field_y, field_x, field_ref, out);
-        if !write_front(out, end) {
+        if !text::write_front(out, end) {
             return false;
         }
     }

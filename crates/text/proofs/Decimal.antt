@@ -2,13 +2,13 @@
 use mathlib.Core.Bool.{true, false}
 use mathlib.Core.List.{List, [], _∷_, _++_}
 use mathlib.Core.Path.{_≡_, refl, ap, _∙_, sym}
-use Prim.Native.Nat.{ℕ, zero, suc, _+_, _/_, _%_, _^_, _≤_, _<_}
-use native.Mathlib.Nat.{pow-succ', one-le-pow}
+use Prim.Native.Nat.{ℕ, zero, suc, _+_, _-_, _/_, _%_, _^_, _≤_, _<_}
+use native.Mathlib.Nat.{pow-succ', one-le-pow, pow-le-pow-right, lt-of-not-le}
 use native.Mathlib.Omega.{arith}
 use lib.IntN.{ℤ, pos, negsuc, natAbs}
 use lib.Signed.{ltZ}
 use borrow.Author.Tests.{lt-ltb, le-ltb, ltb-true}
-use Rattle.io.specs.Digits.{digits}
+use Rattle.io.specs.Digits.{digits, Fewest}
 use Rattle.text.specs.Decimal.{naturalIn, natural, decimal}
 use Rattle.text.specs.Put.{Places}
 
@@ -37,6 +37,26 @@ in-digits (suc j) (suc f) n s l h =
     let b = pow-succ' 10 (suc (suc j)) in
     let p = one-le-pow (suc j) 10 (omega arith) in
     more-digits (suc f) n (omega arith) ∙ ap (λ (t : List ℕ). t ++ ((48 + n % 10) ∷ [])) (in-digits j f (n / 10) (omega arith) (omega arith) (omega arith)) ∙ sym (last-digits (suc (suc j)) n)
+
+below-pow : (j : ℕ) → j < 10 ^ suc j
+below-pow zero = omega arith
+below-pow (suc j) = let a = pow-succ' 10 (suc j) in let b = below-pow j in omega arith
+
+-- the fewest digits that hold a number spell it
+pub fewest-spell : (n k : ℕ) → Fewest 10 1 n k → natural n ≡ digits 10 k n
+unfolding natural
+fewest-spell n zero (l, h, f) = absurd (omega arith)
+fewest-spell n (suc zero) (l, h, f) = one-last n n (omega arith)
+fewest-spell n (suc (suc j)) (l, h, f) =
+    let e : suc (suc j) - 1 ≡ suc j = omega arith in
+    let g = rw e at (f (omega arith)) in
+    in-digits j n n (omega (arith, below-pow j)) g h
+
+-- and they are no more than hold a greater number
+pub fewest-few : (most n k : ℕ) → n < 10 ^ suc most → Fewest 10 1 n k → k ≤ suc most
+fewest-few most n k b (l, h, f) =
+    let a = lt-of-not-le {n = suc (suc most)} {m = k} (λ g. omega (arith, f (omega arith), pow-le-pow-right {n = 10} (omega arith) {i = suc most} {j = k - 1} (omega arith))) in
+    omega arith
 
 pub one-place : (n : ℕ) → n < 10 → Places n 1
 unfolding natural

@@ -5,6 +5,7 @@ ghost use mathlib.Core.List.{[], _∷_};
 ghost use lib.ListN.{length};
 ghost use Rattle.text.specs.Decimal.{natural, decimal, signedByte};
 ghost use Rattle.text.specs.Put.{Put, Places};
+use libc::STDOUT_FILENO;
 
 // The byte as a signed number of eight bits.
 pub fn signed_byte(b: u8) -> i8
@@ -96,4 +97,20 @@ pub fn put_word(word: &[u8], out: &mut [u8], at: usize) -> usize
         i += 1;
     }
     at + i
+}
+
+pub fn put_count(n: u64, out: &mut [u8], at: usize) -> usize
+    requires { ⌜ at + 20 ≤ length (now out) ⌝ }
+    ensures { λ r. ⌜ Put (now (out .entry)) at 20 (natural n) (now (out .exit)) r ⌝ }
+{
+    let mut spelt = [0u8; 20];
+    let k = io::decimal(n, &mut spelt);
+    put_word(&spelt[..k], out, at)
+}
+
+// Writes the first n bytes of out to standard output; false where that fails.
+pub fn write_front(out: &[u8], n: usize) -> bool
+    requires { ⌜ n ≤ length (now out) ⌝ }
+{
+    io::write_all(STDOUT_FILENO, &out[..n])
 }

@@ -7,7 +7,8 @@ use borrow.Author.Tests.{not-false}
 use borrow.Author.Needs.{needs}
 use Rattle.load.specs.Calls.{setupInRange}
 use Rattle.checks.proofs.Bounds.{plane-low}
-use Rattle.pass_cases.proofs.PassCase.{tested, accepted-by}
+use Rattle.cases.proofs.Verdicts.{tested}
+use Rattle.pass_cases.proofs.PassCase.{accepted-by}
 use Rattle.pass_cases.proofs.accepted.Statement.{statement}
 use Rattle.pass_cases.proofs.accepted.Tie as tie
 

@@ -8,7 +8,7 @@ use lib.IntN.{natAbs}
 use mathlib.Core.Path.{_≡_}
 use Rattle.intops.proofs.Signed.{back}
 use Rattle.cases.specs.Numbers.{at}
-use Rattle.pass_cases.proofs.PassCase.{roomy}
+use Rattle.cases.proofs.Verdicts.{roomy}
 use Rattle.pass_cases.proofs.applies.Statement.{statement}
 use Rattle.pass_cases.proofs.applies.Tie as tie
 

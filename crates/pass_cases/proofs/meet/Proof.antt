@@ -9,7 +9,8 @@ use mir.ValLaws.{toZ-ofZ}
 use Rattle.intops.proofs.Signed.{back}
 use Rattle.cases.specs.Numbers.{at}
 use Rattle.intops.specs.Bounds.{Within}
-use Rattle.pass_cases.proofs.PassCase.{roomy, size, short, is-meeting-of, left-by}
+use Rattle.cases.proofs.Verdicts.{roomy, size}
+use Rattle.pass_cases.proofs.PassCase.{short, is-meeting-of, left-by}
 use Rattle.pass_cases.proofs.meet.Statement.{statement}
 use Rattle.pass_cases.proofs.meet.Tie as tie
 

@@ -9,8 +9,9 @@ use mathlib.Core.Path.{_≡_, ap, sym, _∙_}
 use Rattle.intops.proofs.Signed.{back}
 use Rattle.cases.specs.Numbers.{at}
 use Rattle.store.specs.Store.{Store, pack}
+use Rattle.cases.proofs.Verdicts.{roomy}
 use Rattle.pass_cases.specs.PassCase.{fieldPass}
-use Rattle.pass_cases.proofs.PassCase.{roomy, is-empty, is-field, is-gaps, is-meeting, left-by}
+use Rattle.pass_cases.proofs.PassCase.{is-empty, is-field, is-gaps, is-meeting, left-by}
 use Rattle.pass_cases.proofs.run_pass.Statement.{statement}
 use Rattle.pass_cases.proofs.run_pass.Tie as tie
 

@@ -1,7 +1,6 @@
 -- `replay_loads::act` meets its contract. Assumes nothing.
 use mathlib.Core.Path.{refl}
 use native.Mathlib.Omega.{arith}
-use Rattle.replay_loads.proofs.Laws.{other}
 use borrow.Author.Needs.{needs}
 use Rattle.replay_loads.proofs.act.Statement.{statement}
 use Rattle.replay_loads.proofs.act.Tie as tie
@@ -37,7 +36,9 @@ same-length-2 : tie.Need-same-length-2
 same-length-2 c = search needs
 
 returns : tie.Need-returns
-returns c = other 1 (c .before .before .before .before .before .match .keys1) (omega arith) (omega arith) (λ f. omega arith) (λ f. omega arith)
+returns c =
+    let k = c .before .before .before .before .before .match .keys1 in
+    record { beginsCase = λ f. c .before .before .begin-case .ensures; setsUp = λ f. absurd (omega arith); begins = λ f. absurd (omega arith); setsLists = λ f. absurd (omega arith); changesWant = λ f. absurd (omega arith); beginsPass = λ f. absurd (omega arith); checks = λ f. absurd (omega arith); unknown = λ f. absurd (omega arith); sameSetup = λ f. refl; sameCall = λ f g. refl; sameLists = λ f g h. absurd (f k); sameWant = λ f g h. absurd (f k); uncounted = λ f. refl }
 
 same-length-3 : tie.Need-same-length-3
 same-length-3 c = search needs
@@ -45,7 +46,7 @@ same-length-3 c = search needs
 returns-2 : tie.Need-returns-2
 returns-2 c =
     let k = c .before .before .before .match .keys2 in
-    record { setsUp = λ f. c .before .setup .ensures; begins = λ f. absurd (omega arith); beginsPass = λ f. absurd (omega arith); checks = λ f. absurd (omega arith); unknown = λ f. absurd (omega arith); sameSetup = λ f. absurd (f k); sameCall = λ f g. refl; uncounted = λ f. refl }
+    record { beginsCase = λ f. absurd (omega arith); setsUp = λ f. c .before .setup .ensures; begins = λ f. absurd (omega arith); setsLists = λ f. absurd (omega arith); changesWant = λ f. absurd (omega arith); beginsPass = λ f. absurd (omega arith); checks = λ f. absurd (omega arith); unknown = λ f. absurd (omega arith); sameSetup = λ f. absurd (f k); sameCall = λ f g. refl; sameLists = λ f g h. refl; sameWant = λ f g h. refl; uncounted = λ f. refl }
 
 same-length-4 : tie.Need-same-length-4
 same-length-4 c = search needs
@@ -54,7 +55,9 @@ same-length-5 : tie.Need-same-length-5
 same-length-5 c = search needs
 
 returns-3 : tie.Need-returns-3
-returns-3 c = other 3 (c .before .before .before .before .before .match .keys3) (omega arith) (omega arith) (λ f. omega arith) (λ f. omega arith)
+returns-3 c =
+    let k = c .before .before .before .before .before .match .keys3 in
+    record { beginsCase = λ f. absurd (omega arith); setsUp = λ f. absurd (omega arith); begins = λ f. absurd (omega arith); setsLists = λ f. c .before .before .set .ensures; changesWant = λ f. absurd (omega arith); beginsPass = λ f. absurd (omega arith); checks = λ f. absurd (omega arith); unknown = λ f. absurd (omega arith); sameSetup = λ f. refl; sameCall = λ f g. refl; sameLists = λ f g h. absurd (g k); sameWant = λ f g h. absurd (g k); uncounted = λ f. refl }
 
 same-length-6 : tie.Need-same-length-6
 same-length-6 c = search needs
@@ -62,13 +65,15 @@ same-length-6 c = search needs
 returns-4 : tie.Need-returns-4
 returns-4 c =
     let k = c .before .before .before .match .keys4 in
-    record { setsUp = λ f. absurd (omega arith); begins = λ f. c .before .begin .ensures; beginsPass = λ f. absurd (omega arith); checks = λ f. absurd (omega arith); unknown = λ f. absurd (omega arith); sameSetup = λ f. refl; sameCall = λ f g. absurd (f k); uncounted = λ f. refl }
+    record { beginsCase = λ f. absurd (omega arith); setsUp = λ f. absurd (omega arith); begins = λ f. c .before .begin .ensures; setsLists = λ f. absurd (omega arith); changesWant = λ f. absurd (omega arith); beginsPass = λ f. absurd (omega arith); checks = λ f. absurd (omega arith); unknown = λ f. absurd (omega arith); sameSetup = λ f. refl; sameCall = λ f g. absurd (f k); sameLists = λ f g h. refl; sameWant = λ f g h. refl; uncounted = λ f. refl }
 
 same-length-7 : tie.Need-same-length-7
 same-length-7 c = search needs
 
 returns-5 : tie.Need-returns-5
-returns-5 c = other 5 (c .before .before .before .match .keys5) (omega arith) (omega arith) (λ f. omega arith) (λ f. omega arith)
+returns-5 c =
+    let k = c .before .before .before .match .keys5 in
+    record { beginsCase = λ f. absurd (omega arith); setsUp = λ f. absurd (omega arith); begins = λ f. absurd (omega arith); setsLists = λ f. absurd (omega arith); changesWant = λ f. c .before .change .ensures; beginsPass = λ f. absurd (omega arith); checks = λ f. absurd (omega arith); unknown = λ f. absurd (omega arith); sameSetup = λ f. refl; sameCall = λ f g. refl; sameLists = λ f g h. refl; sameWant = λ f g h. absurd (h k); uncounted = λ f. refl }
 
 same-length-8 : tie.Need-same-length-8
 same-length-8 c = search needs
@@ -88,7 +93,7 @@ same-length-12 c = search needs
 returns-6 : tie.Need-returns-6
 returns-6 c =
     let k = c .before .before .before .before .before .before .before .before .before .match .keys6 in
-    record { setsUp = λ f. absurd (omega arith); begins = λ f. absurd (omega arith); beginsPass = λ f. absurd (omega arith); checks = λ f. c .before .before .before .check .ensures; unknown = λ f. absurd (omega arith); sameSetup = λ f. refl; sameCall = λ f g. refl; uncounted = λ f. absurd (f k) }
+    record { beginsCase = λ f. absurd (omega arith); setsUp = λ f. absurd (omega arith); begins = λ f. absurd (omega arith); setsLists = λ f. absurd (omega arith); changesWant = λ f. absurd (omega arith); beginsPass = λ f. absurd (omega arith); checks = λ f. c .before .before .before .check .ensures; unknown = λ f. absurd (omega arith); sameSetup = λ f. refl; sameCall = λ f g. refl; sameLists = λ f g h. absurd (h k); sameWant = λ f g h. refl; uncounted = λ f. absurd (f k) }
 
 same-length-13 : tie.Need-same-length-13
 same-length-13 c = search needs
@@ -96,12 +101,12 @@ same-length-13 c = search needs
 returns-7 : tie.Need-returns-7
 returns-7 c =
     let k = c .before .before .before .match .keys7 in
-    record { setsUp = λ f. absurd (omega arith); begins = λ f. absurd (omega arith); beginsPass = λ f. c .before .begin2 .ensures; checks = λ f. absurd (omega arith); unknown = λ f. absurd (omega arith); sameSetup = λ f. refl; sameCall = λ f g. absurd (g k); uncounted = λ f. refl }
+    record { beginsCase = λ f. absurd (omega arith); setsUp = λ f. absurd (omega arith); begins = λ f. absurd (omega arith); setsLists = λ f. absurd (omega arith); changesWant = λ f. absurd (omega arith); beginsPass = λ f. c .before .begin2 .ensures; checks = λ f. absurd (omega arith); unknown = λ f. absurd (omega arith); sameSetup = λ f. refl; sameCall = λ f g. absurd (g k); sameLists = λ f g h. refl; sameWant = λ f g h. refl; uncounted = λ f. refl }
 
 returns-8 : tie.Need-returns-8
 returns-8 c =
     let m = c .before .match .rest in
-    record { setsUp = λ f. absurd (m .0 .0 .0 .0 .0 .1 f); begins = λ f. absurd (m .0 .0 .0 .1 f); beginsPass = λ f. absurd (m .1 f); checks = λ f. absurd (m .0 .1 f); unknown = λ f. c .ended .ensures; sameSetup = λ f. refl; sameCall = λ f g. refl; uncounted = λ f. refl }
+    record { beginsCase = λ f. absurd (m .0 .0 .0 .0 .0 .0 .1 f); setsUp = λ f. absurd (m .0 .0 .0 .0 .0 .1 f); begins = λ f. absurd (m .0 .0 .0 .1 f); setsLists = λ f. absurd (m .0 .0 .0 .0 .1 f); changesWant = λ f. absurd (m .0 .0 .1 f); beginsPass = λ f. absurd (m .1 f); checks = λ f. absurd (m .0 .1 f); unknown = λ f. c .ended .ensures; sameSetup = λ f. refl; sameCall = λ f g. refl; sameLists = λ f g h. refl; sameWant = λ f g h. refl; uncounted = λ f. refl }
 
 pub act-spec : {M : Type 1} → statement M
 act-spec =

@@ -1,14 +1,20 @@
--- `replay_loads::book::case` is safe and ends. The measure is how many lists are left. Assumes nothing.
+-- `replay_loads::book::case` meets its contract. The measure is how many lists are left. Assumes nothing.
 use mathlib.Core.Path.{_≡_}
-use Prim.Native.Nat.{_-_, _≤_}
+use Prim.Native.Nat.{_+_, _-_, _≤_}
 use native.Mathlib.Omega.{arith}
 use lib.ListN.{length, length-set}
-use borrow.Author.Needs.{needs}
+use mir.Syntax.{w64}
+use mir.Val.{SFits}
+use borrow.Author.Needs.{sfits-of, needs}
+use Rattle.intops.proofs.Signed.{back}
+use Rattle.cases.specs.Numbers.{at}
+use Rattle.replay_loads.specs.Calls.{opens, opensNone, LengthsStated}
+use Rattle.replay_loads.proofs.Runs.{stated-more}
 use Rattle.replay_loads.proofs.book.case.Statement.{statement}
 use Rattle.replay_loads.proofs.book.case.Tie as tie
 
 abbrev Inv-loop : tie.InvT-loop
-Inv-loop b n next₀ list₀ next list = (list ≤ 8) × (length (next .lengths) ≡ 8)
+Inv-loop b n next₀ list₀ next list = (list ≤ 8) × (length (next .lengths) ≡ 8) × (next .ended ≡ 0) × (next .setup ≡ 0) × (next .call ≡ 0) × LengthsStated list n (next .lengths)
 
 abbrev μ-loop : tie.MeasureT-loop
 μ-loop b n next₀ list₀ next list = 8 - list
@@ -20,16 +26,16 @@ ended-requires : tie.Need-ended-requires Inv-loop μ-loop
 ended-requires c κs = search needs
 
 returns : tie.Need-returns Inv-loop μ-loop
-returns c = search needs
+returns c = opensNone {why = 3} (omega arith) (c .ended .ensures)
 
 ended-requires-2 : tie.Need-ended-requires-2 Inv-loop μ-loop
 ended-requires-2 c κs = search needs
 
 returns-2 : tie.Need-returns-2 Inv-loop μ-loop
-returns-2 c = search needs
+returns-2 c = opensNone {why = 3} (omega arith) (c .ended2 .ensures)
 
 loop-holds : tie.Need-loop-holds Inv-loop μ-loop
-loop-holds c = search needs
+loop-holds c = let e = c .before .before .before .start .ensures in (omega arith, e .3, e .0, e .1, e .2, λ i h j. absurd (omega arith))
 
 add-to-usize : tie.Need-add-to-usize Inv-loop μ-loop
 add-to-usize c = search needs
@@ -50,7 +56,7 @@ ended-requires-3 : tie.Need-ended-requires-3 Inv-loop μ-loop
 ended-requires-3 c κs = search needs
 
 returns-3 : tie.Need-returns-3 Inv-loop μ-loop
-returns-3 c = search needs
+returns-3 c = opensNone {why = 4} (omega arith) (c .ended3 .ensures)
 
 mul-next : tie.Need-mul-next Inv-loop μ-loop
 mul-next c = search needs
@@ -65,10 +71,17 @@ loop-less : tie.Need-loop-less Inv-loop μ-loop
 loop-less c = search needs
 
 loop-again : tie.Need-loop-again Inv-loop μ-loop
-loop-again c = (omega arith, simp length-set (omega arith))
+loop-again c =
+    let n = c .before .before .before .before .before .before .before .before .before .before .args .n .now in
+    let l = c .before .before .before .before .before .loop in
+    let f : SFits w64 (at n (l .list + 1)) = sfits-of (c .before .before .before .to-usize-arg .given) in
+    (omega (arith, c .before .before .before .before .loop-test .taken), simp length-set (l .inv .1), l .inv .2, l .inv .3, l .inv .4, stated-more n (l .next .lengths) (l .list) (c .before .before .to-usize .result) (omega (arith, c .before .before .before .before .loop-test .taken, l .inv .1)) (l .inv .5) (simp back at (c .before .before .to-usize .ensures)))
 
 returns-4 : tie.Need-returns-4 Inv-loop μ-loop
-returns-4 c = search needs
+returns-4 c =
+    let l = c .before .loop in
+    let e : l .list ≡ 8 = omega (arith, c .loop-test .left, l .inv .0) in
+    opens (c .before .before .if2 .left) (l .inv .2) (l .inv .3) (l .inv .4) (λ i h j. l .inv .5 i (omega (arith, h, e)) j)
 
 pub case-spec : {M : Type 1} → statement M
 case-spec =

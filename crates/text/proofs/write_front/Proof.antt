@@ -1,8 +1,8 @@
--- `show_field::write::write_front` is safe. Assumes nothing.
+-- `text::write_front` is safe. Assumes nothing.
 use Rattle.io.proofs.Counting.{counts}
 use borrow.Author.Needs.{needs}
-use Rattle.show_field.proofs.write.write_front.Statement.{statement}
-use Rattle.show_field.proofs.write.write_front.Tie as tie
+use Rattle.text.proofs.write_front.Statement.{statement}
+use Rattle.text.proofs.write_front.Tie as tie
 
 slice-aggregate-write-all : tie.Need-slice-aggregate-write-all
 slice-aggregate-write-all c = counts _ _ (c .before .before .pre) .1
