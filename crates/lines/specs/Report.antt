@@ -1,24 +1,25 @@
--- The lines of a report, as lists of bytes in ASCII. Assumes nothing.
-use mathlib.Core.List.{List, [], _∷_, _++_}
+-- The lines of a report, as lists of bytes. Assumes nothing.
+use mathlib.Core.List.{List, _++_}
 use Prim.Native.Nat.{ℕ}
+use Rattle.text.specs.Ascii.{ascii}
 use Rattle.text.specs.Decimal.{natural}
 
--- `NAME: N agreed` and a line feed, 10
+-- `NAME: N agreed` and a line feed
 unfoldable pub agreedText : List ℕ → ℕ → List ℕ
-agreedText name n = name ++ (58 ∷ 32 ∷ []) ++ natural n ++ (32 ∷ 97 ∷ 103 ∷ 114 ∷ 101 ∷ 101 ∷ 100 ∷ 10 ∷ [])
+agreedText name n = name ++ ascii ": " ++ natural n ++ ascii " agreed\n"
 
 -- `line N: `
 unfoldable pub lineText : ℕ → List ℕ
-lineText n = (108 ∷ 105 ∷ 110 ∷ 101 ∷ 32 ∷ []) ++ natural n ++ (58 ∷ 32 ∷ [])
+lineText n = ascii "line " ++ natural n ++ ascii ": "
 
 -- `line N: NAME differs` and a line feed
 unfoldable pub differsText : ℕ → List ℕ → List ℕ
-differsText line name = lineText line ++ name ++ (32 ∷ 100 ∷ 105 ∷ 102 ∷ 102 ∷ 101 ∷ 114 ∷ 115 ∷ 10 ∷ [])
+differsText line name = lineText line ++ name ++ ascii " differs\n"
 
 -- `line N: WHY` and a line feed
 unfoldable pub whyText : ℕ → List ℕ → List ℕ
-whyText line why = lineText line ++ why ++ (10 ∷ [])
+whyText line why = lineText line ++ why ++ ascii "\n"
 
 -- `all N agree` and a line feed
 unfoldable pub allText : ℕ → List ℕ
-allText n = (97 ∷ 108 ∷ 108 ∷ 32 ∷ []) ++ natural n ++ (32 ∷ 97 ∷ 103 ∷ 114 ∷ 101 ∷ 101 ∷ 10 ∷ [])
+allText n = ascii "all " ++ natural n ++ ascii " agree\n"

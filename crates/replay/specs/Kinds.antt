@@ -4,6 +4,7 @@ use mathlib.Core.Path.{_≡_}
 use Prim.Native.Nat.{ℕ, zero, suc, _+_, _%_, _^_}
 use lib.IntN.{ℤ}
 use lib.ListN.{getD, take}
+use Rattle.text.specs.Ascii.{ascii}
 use Rattle.cases.specs.declared.Verdict.{Verdict}
 use Rattle.cases.specs.declared.Verdict.the-variants.{Agrees, Differs, NotACase}
 use Rattle.lines.specs.declared.State.{State}
@@ -11,18 +12,18 @@ use Rattle.lines.specs.Line.{line, allRead, countedUp}
 use Rattle.leaf_cases.specs.Agrees.{ProjectAgrees, ScaleAgrees, QuantizeAgrees, DequantizeAgrees, HintAgrees, SmoothAgrees, GapAgrees}
 use Rattle.frame_cases.specs.FrameCase.{FrameAgrees}
 
--- the words of the kinds 1 to 8, in ASCII: project, scale, quantize, dequantize, hint, smooth, gap, frame
+-- the words of the kinds 1 to 8
 unfoldable pub names : List (List ℕ)
 names =
     []
-    ∷ (112 ∷ 114 ∷ 111 ∷ 106 ∷ 101 ∷ 99 ∷ 116 ∷ [])
-    ∷ (115 ∷ 99 ∷ 97 ∷ 108 ∷ 101 ∷ [])
-    ∷ (113 ∷ 117 ∷ 97 ∷ 110 ∷ 116 ∷ 105 ∷ 122 ∷ 101 ∷ [])
-    ∷ (100 ∷ 101 ∷ 113 ∷ 117 ∷ 97 ∷ 110 ∷ 116 ∷ 105 ∷ 122 ∷ 101 ∷ [])
-    ∷ (104 ∷ 105 ∷ 110 ∷ 116 ∷ [])
-    ∷ (115 ∷ 109 ∷ 111 ∷ 111 ∷ 116 ∷ 104 ∷ [])
-    ∷ (103 ∷ 97 ∷ 112 ∷ [])
-    ∷ (102 ∷ 114 ∷ 97 ∷ 109 ∷ 101 ∷ [])
+    ∷ ascii "project"
+    ∷ ascii "scale"
+    ∷ ascii "quantize"
+    ∷ ascii "dequantize"
+    ∷ ascii "hint"
+    ∷ ascii "smooth"
+    ∷ ascii "gap"
+    ∷ ascii "frame"
     ∷ []
 
 -- the word of kind k; what is no kind has none

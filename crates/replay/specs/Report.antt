@@ -1,9 +1,10 @@
 -- What replay writes at the end of a run. Assumes nothing.
 use mathlib.Core.Bool.{cond}
-use mathlib.Core.List.{List, [], _∷_, _++_}
+use mathlib.Core.List.{List, _++_}
 use Prim.Native.Nat.{ℕ, _+_}
 use lib.Dec.{eqb}
 use lib.ListN.{getD, take}
+use Rattle.text.specs.Ascii.{ascii}
 use Rattle.text.specs.Put.{joined}
 use Rattle.lines.specs.declared.State.{State}
 use Rattle.lines.specs.Report.{agreedText, differsText, whyText, allText}
@@ -17,13 +18,9 @@ kindLine t k = agreedText (name (k + 1)) (getD t (k + 1) 0)
 unfoldable pub kindsText : List ℕ → List ℕ
 kindsText t = joined (kindLine t) 8 0
 
--- `not a case`
-abbrev pub notACaseText : List ℕ
-notACaseText = 110 ∷ 111 ∷ 116 ∷ 32 ∷ 97 ∷ 32 ∷ 99 ∷ 97 ∷ 115 ∷ 101 ∷ []
-
 -- the last line: all agree, or the line of the input that is no case, or that differs, with its word
 unfoldable pub endText : ℕ → ℕ → ℕ → List ℕ → List ℕ
-endText r sum line word = cond (eqb r ended) (allText sum) (cond (eqb r notACase) (whyText line notACaseText) (differsText line word))
+endText r sum line word = cond (eqb r ended) (allText sum) (cond (eqb r notACase) (whyText line (ascii "not a case")) (differsText line word))
 
 unfoldable pub reportText : ℕ → State → List ℕ → List ℕ → List ℕ
 reportText r s word t = kindsText t ++ endText r (agreed 8 t) (s .line) (take (s .letters) word)

@@ -15,7 +15,7 @@ ghost use mathlib.Core.Bool.{cond};
 ghost use mathlib.Core.Path.{_≡_};
 ghost use Prim.Native.Nat.{_+_, _≤_};
 ghost use lib.Dec.{eqb};
-ghost use lib.ListN.{length};
+ghost use lib.ListN.{length, take};
 ghost use Rattle.text.specs.Put.{Put};
 ghost use Rattle.lines.specs.Line.{countedUp};
 ghost use Rattle.replay.specs.Kinds.{Holds, Taken, running, ended, endOf};
@@ -24,8 +24,10 @@ ghost use Rattle.replay.specs.Report.{endText, reportText};
 mod kinds;
 
 use cases::Verdict;
+use libc::STDOUT_FILENO;
 use lines::State;
 use lines::report;
+use text::Written;
 
 // How a line has ended the run, if it has.
 const RUNNING: usize = 0;
@@ -105,12 +107,19 @@ fn put_report(ended: usize, s: State, word: &[u8], tallies: &[u64], out: &mut [u
     put_end(ended, sum, s.line, &word[0..letters], out, last)
 }
 
+fn write_end(ended: usize, s: State, word: &[u8], tallies: &[u64], out: &mut [u8]) -> Written
+    requires { ⌜ (length (now word) ≤ 16) × (420 ≤ length (now out)) ⌝ }
+    ensures { λ r. ⌜ take (r .bytes) (now (out .exit)) ≡ reportText ended s (now (word .entry)) (now (tallies .entry)) ⌝ }
+{
+    let n = put_report(ended, s, word, tallies, out);
+    text::write_front(STDOUT_FILENO, out, n)
+}
+
 fn print_end(ended: usize, s: State, word: &[u8], tallies: &[u64])
     requires { ⌜ (length (now word) ≤ 16) × (ended ≡ running → ⊥) ⌝ }
 {
     let mut out = [0u8; 420];
-    let n = put_report(ended, s, word, tallies, &mut out);
-    text::write_front(&out, n);
+    write_end(ended, s, word, tallies, &mut out);
 }
 
 // Makes the buffers once, and lends them. The turns are those of lines::next_line.

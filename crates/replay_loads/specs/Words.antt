@@ -1,20 +1,21 @@
--- The words of lines, and what replay_loads makes of a call. What is read and what is written, no definition can say. Assumes nothing.
+-- The words of lines. What is read, no definition can say; what is written, Report.antt says. Assumes nothing.
 use mathlib.Core.List.{List, [], _∷_}
 use mathlib.Core.Path.{_≡_}
 use Prim.Native.Nat.{ℕ, _≤_, _<_}
 use lib.ListN.{getD}
+use Rattle.text.specs.Ascii.{ascii}
 
--- the words 1 to 7, in ASCII: case, setup, set, call, changed, check, pass
+-- the words 1 to 7
 unfoldable pub names : List (List ℕ)
 names =
     []
-    ∷ (99 ∷ 97 ∷ 115 ∷ 101 ∷ [])
-    ∷ (115 ∷ 101 ∷ 116 ∷ 117 ∷ 112 ∷ [])
-    ∷ (115 ∷ 101 ∷ 116 ∷ [])
-    ∷ (99 ∷ 97 ∷ 108 ∷ 108 ∷ [])
-    ∷ (99 ∷ 104 ∷ 97 ∷ 110 ∷ 103 ∷ 101 ∷ 100 ∷ [])
-    ∷ (99 ∷ 104 ∷ 101 ∷ 99 ∷ 107 ∷ [])
-    ∷ (112 ∷ 97 ∷ 115 ∷ 115 ∷ [])
+    ∷ ascii "case"
+    ∷ ascii "setup"
+    ∷ ascii "set"
+    ∷ ascii "call"
+    ∷ ascii "changed"
+    ∷ ascii "check"
+    ∷ ascii "pass"
     ∷ []
 
 unfoldable pub name : ℕ → List ℕ

@@ -1,13 +1,15 @@
 // How a run ends: what it writes, and writing it.
 ghost use mathlib.Core.Path.{_≡_};
 ghost use Prim.Native.Nat.{_+_, _≤_};
-ghost use lib.ListN.{length};
+ghost use lib.ListN.{length, take};
 ghost use Rattle.text.specs.Put.{Put};
 ghost use Rattle.lines.specs.Report.{differsText};
 ghost use Rattle.replay_loads.specs.Report.{talliesText, sumOf, callText, endText, reportText};
 use crate::book;
 use crate::book::Book;
+use libc::STDOUT_FILENO;
 use lines::report;
+use text::Written;
 
 // Each put function writes its lines into out, and answers where they end.
 fn put_tallies(tallies: &[u64], out: &mut [u8]) -> usize
@@ -67,8 +69,15 @@ fn put_report(b: Book, line: u64, tallies: &[u64], out: &mut [u8]) -> usize
     put_end(b, sum, line, out, last)
 }
 
+fn write_end(b: Book, line: u64, tallies: &[u64], out: &mut [u8]) -> Written
+    requires { ⌜ 176 ≤ length (now out) ⌝ }
+    ensures { λ r. ⌜ take (r .bytes) (now (out .exit)) ≡ reportText b line (now (tallies .entry)) ⌝ }
+{
+    let n = put_report(b, line, tallies, out);
+    text::write_front(STDOUT_FILENO, out, n)
+}
+
 pub fn print_end(b: Book, line: u64, tallies: &[u64]) {
     let mut out = [0u8; 176];
-    let n = put_report(b, line, tallies, &mut out);
-    text::write_front(&out, n);
+    write_end(b, line, tallies, &mut out);
 }

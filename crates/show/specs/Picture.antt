@@ -9,6 +9,7 @@ use lib.ListN.{getD}
 use lib.Signed.{leZ, ltZ}
 use Rattle.intops.specs.Choice.{eqZ}
 use Rattle.levels.specs.Vector.{empty}
+use Rattle.text.specs.Ascii.{ascii}
 use Rattle.text.specs.Decimal.{natural}
 use Rattle.text.specs.Put.{joined}
 use Rattle.show.specs.declared.Colour.{Colour}
@@ -77,7 +78,7 @@ rowPixels ys xs base py width = joined (pixelAt ys xs base py) width 0
 
 -- the head of a PPM file: `P6`, the size, the greatest number of a channel
 unfoldable pub headText : ℕ → ℕ → List ℕ
-headText width height = (80 ∷ 54 ∷ 10 ∷ []) ++ natural width ++ (32 ∷ []) ++ natural height ++ (10 ∷ 50 ∷ 53 ∷ 53 ∷ 10 ∷ [])
+headText width height = ascii "P6\n" ++ natural width ++ ascii " " ++ natural height ++ ascii "\n255\n"
 
 -- ---- what is proved of it besides (proofs/Picture.antt)
 

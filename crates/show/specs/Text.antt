@@ -1,25 +1,26 @@
--- A field's cells as text (docs/FRAME_FILE.md, "Text"), as a list of bytes in ASCII. Assumes nothing.
+-- A field's cells as text (docs/FRAME_FILE.md, "Text"), as a list of bytes. Assumes nothing.
 use mathlib.Core.Bool.{cond}
-use mathlib.Core.List.{List, [], _∷_, _++_}
+use mathlib.Core.List.{List, _++_}
 use Prim.Native.Nat.{ℕ, _+_}
 use lib.IntN.{ℤ, pos}
 use lib.ListN.{getD}
 use Rattle.intops.specs.Choice.{eqZ}
 use Rattle.levels.specs.Vector.{empty}
+use Rattle.text.specs.Ascii.{ascii}
 use Rattle.text.specs.Decimal.{natural, decimal}
 use Rattle.text.specs.Put.{joined}
 
 -- `row column `
 unfoldable pub placeText : ℕ → ℕ → List ℕ
-placeText row col = natural row ++ (32 ∷ []) ++ natural col ++ (32 ∷ [])
+placeText row col = natural row ++ ascii " " ++ natural col ++ ascii " "
 
--- `y x reference` and a line feed, 10
+-- `y x reference` and a line feed
 unfoldable pub vectorText : ℤ → ℤ → ℕ → List ℕ
-vectorText y x reference = decimal y ++ (32 ∷ []) ++ decimal x ++ (32 ∷ []) ++ natural reference ++ (10 ∷ [])
+vectorText y x reference = decimal y ++ ascii " " ++ decimal x ++ ascii " " ++ natural reference ++ ascii "\n"
 
 -- `empty` and a line feed
 abbrev pub emptyText : List ℕ
-emptyText = 101 ∷ 109 ∷ 112 ∷ 116 ∷ 121 ∷ 10 ∷ []
+emptyText = ascii "empty\n"
 
 -- the line of a cell: empty by its y
 unfoldable pub cellLine : ℕ → ℕ → ℤ → ℤ → ℕ → List ℕ

@@ -1,3 +1,4 @@
 pub mod Parts
+pub mod Shows
 pub mod Tests
 pub mod Words

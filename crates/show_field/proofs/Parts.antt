@@ -14,12 +14,20 @@ use Rattle.load.specs.Load.{wideOf, highOf, strideOf}
 use Rattle.framefile.specs.File.{byteAt, isOn, headerOf, presentOf, endsOf, planeAt, putPlanes}
 use Rattle.loads.specs.Frame.{frameCalls, untilRefused}
 use Rattle.show.specs.Picture.{rowPixels}
-use Rattle.show_field.specs.Output.{picturePart}
+use Rattle.show_field.specs.declared.Wanted.{Wanted}
+use Rattle.show_field.specs.declared.Wanted.the-variants.{Text, Picture, Usage}
+use Rattle.show_field.specs.Output.{partsOf, picturePart}
 use Rattle.show_field.specs.Shown.{columnsOf, setupNumber, fileFrame, endOf, badColumns, planesOf, emptyStore, loadedOf}
 
 -- a row of pixels is the part behind the head
 pub row-part : (f : Frame) (ys xs : List ℤ) (k py : ℕ) → k ≡ suc py → rowPixels ys xs (py / 8 * strideOf f) py (f .width) ≡ picturePart f ys xs k
 row-part f ys xs k py e = rw e
+
+-- a field has few parts: rows of cells, or a head and rows of pixels
+pub few-parts : (w : Wanted) (f : Frame) → f .height ≤ 2048 → partsOf w f ≤ 2049
+few-parts Text f h = omega (arith, h)
+few-parts Picture f h = omega (arith, h)
+few-parts Usage f h = omega arith
 
 module _ (b : List ℕ) (f : Frame) (fe : f ≡ fileFrame b) where
   pub planes-as : (present : List Bool) (n wide high stride : ℕ) (none : List ℤ) → present ≡ presentOf b → n ≡ columnsOf b → wide ≡ wideOf f → high ≡ highOf f → stride ≡ strideOf f → none ≡ replicate 2752512 (pos 0)

@@ -3,15 +3,9 @@ use mathlib.Core.Bool.{Bool, true, false, cond, _&&_}
 use mathlib.Core.List.{List, [], _∷_}
 use Prim.Native.Nat.{ℕ}
 use lib.Dec.{ltb, eqb}
+use Rattle.text.specs.Ascii.{ascii}
 use Rattle.show_field.specs.declared.Wanted.{Wanted}
 use Rattle.show_field.specs.declared.Wanted.the-variants.{Text, Picture, Usage}
-
--- the words, in ASCII: text, picture
-unfoldable pub textWord : List ℕ
-textWord = 116 ∷ 101 ∷ 120 ∷ 116 ∷ []
-
-unfoldable pub pictureWord : List ℕ
-pictureWord = 112 ∷ 105 ∷ 99 ∷ 116 ∷ 117 ∷ 114 ∷ 101 ∷ []
 
 -- are the words the same?
 unfoldable pub isWord : List ℕ → List ℕ → Bool
@@ -25,6 +19,6 @@ unfoldable pub asked : ℕ → List ℕ → Wanted
 asked count arg =
     cond (ltb count 2) Text
     (cond (ltb 2 count) Usage
-    (cond (isWord arg textWord) Text
-    (cond (isWord arg pictureWord) Picture
+    (cond (isWord arg (ascii "text")) Text
+    (cond (isWord arg (ascii "picture")) Picture
     Usage)))

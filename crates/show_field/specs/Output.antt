@@ -1,4 +1,5 @@
 -- What is written of a field, part by part (docs/FRAME_FILE.md, "Text" and "Picture"). Assumes nothing.
+use mathlib.Core.Bool.{false}
 use mathlib.Core.List.{List, []}
 use Prim.Native.Nat.{ℕ, zero, suc, _+_, _*_, _/_}
 use lib.IntN.{ℤ}
@@ -7,7 +8,12 @@ use Rattle.load.specs.Load.{wideOf, highOf, strideOf}
 use Rattle.show.specs.Text.{rowText}
 use Rattle.show.specs.Picture.{rowPixels, headText}
 use Rattle.show_field.specs.declared.Wanted.{Wanted}
+use Rattle.show_field.specs.declared.write.Sent.{Sent}
 use Rattle.show_field.specs.declared.Wanted.the-variants.{Text, Picture, Usage}
+
+-- the receipt of nothing: no part was written, and no write failed
+unfoldable pub noneSent : Sent
+noneSent = record { parts = 0; bytes = 0; failed = false }
 
 -- how many parts there are: of a text the rows of cells, of a picture its head and the rows of pixels; for the usage's line nothing is loaded
 abbrev pub partsOf : Wanted → Frame → ℕ

@@ -1,7 +1,6 @@
 -- What is made of a frame file (docs/FRAME_FILE.md), by its bytes: the field, or why it cannot be shown. Assumes nothing.
-use mathlib.Core.Bool.{Bool, not, cond, _||_}
+use mathlib.Core.Bool.{Bool, false, not, cond, _||_}
 use mathlib.Core.List.{List}
-use mathlib.Core.Logic.{_⊎_}
 use mathlib.Core.Path.{_≡_}
 use Prim.Native.Nat.{ℕ, _-_}
 use lib.Dec.{eqb, ltb}
@@ -18,8 +17,12 @@ use Rattle.store.specs.Store.{Store, pack, noMap}
 use Rattle.load.specs.Load.{wideOf, highOf, strideOf}
 use Rattle.framefile.specs.File.{byteAt, isOn, headerOf, isFrameFile, presentOf, endAt, endsOf, planeAt, putPlanes}
 use Rattle.loads.specs.Frame.{After, frameCalls, untilRefused}
+use Rattle.show_field.specs.declared.Shown.{Shown}
+use Rattle.show_field.specs.declared.Wanted.{Wanted}
 use Rattle.show_field.specs.declared.problems.Problem.{Problem}
-use Rattle.show_field.specs.declared.problems.Problem.the-variants.{Nothing, TooShort, NotAFrameFile, Setup, TooLarge, TileColumns, TooLong, Load, NotWritten}
+use Rattle.show_field.specs.declared.problems.Problem.the-variants.{Nothing, Usage, TooShort, NotAFrameFile, Setup, TooLarge, TileColumns, TooLong, Load, NotWritten}
+use Rattle.show_field.specs.declared.write.Sent.{Sent}
+use Rattle.show_field.specs.Output.{partsOf, noneSent}
 
 -- N, the number of tile columns
 abbrev pub columnsOf : List ℕ → ℕ
@@ -82,9 +85,27 @@ problemOf b =
     (cond (ltb 2048 (fileFrame b .height)) TooLarge
     (restProblem b)))))
 
--- r is what the program tells of a file whose problem is p: p; or NotWritten, if p is Nothing and a write failed (that one failed, no contract can say)
-abbrev pub Told : Problem → Problem → Type 0
-Told p r = (r ≡ p) ⊎ ((p ≡ Nothing) × (r ≡ NotWritten))
+-- what comes of a file with a problem: nothing is written
+abbrev pub unshownOf : Problem → Shown
+unshownOf p = record { problem = p; sent = noneSent }
+
+-- what is written of a file with the problem p whose field has n parts: where there is none all of them, unless a write fails; else nothing
+abbrev pub Writes : Problem → ℕ → Sent → Type 0
+Writes Nothing n s = s .failed ≡ false → s .parts ≡ n
+Writes Usage n s = s ≡ noneSent
+Writes TooShort n s = s ≡ noneSent
+Writes NotAFrameFile n s = s ≡ noneSent
+Writes (Setup said) n s = s ≡ noneSent
+Writes TooLarge n s = s ≡ noneSent
+Writes TileColumns n s = s ≡ noneSent
+Writes TooLong n s = s ≡ noneSent
+Writes (Load said) n s = s ≡ noneSent
+Writes NotWritten n s = s ≡ noneSent
+
+-- what comes of a file of the bytes b: its problem is told, unless a write failed, and then that is (whether one failed, no contract can say)
+pub record Shows (w : Wanted) (b : List ℕ) (r : Shown) : Type 0 where
+  pub told : r .problem ≡ cond (r .sent .failed) NotWritten (problemOf b)
+  pub written : Writes (problemOf b) (partsOf w (fileFrame b)) (r .sent)
 
 -- f, ys, xs and refs are the frame and the field of a file that has no problem: what is written is asked to be of such a one. Which bytes go out, no contract can say
 pub record FieldOfFile (f : Frame) (ys xs : List ℤ) (refs : List ℕ) : Type 0 where

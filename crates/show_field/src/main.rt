@@ -9,10 +9,11 @@ ghost use mathlib.Core.Path.{_≡_};
 ghost use Prim.Native.Nat.{_+_, _*_, _≤_, _<_};
 ghost use lib.ListN.{length};
 ghost use Rattle.show_field.specs.Asked.{asked};
-ghost use Rattle.show_field.specs.Shown.{fileFrame, endOf, badColumns, loadProblem, restProblem, problemOf, Told};
+ghost use Rattle.show_field.specs.Shown.{fileFrame, endOf, badColumns, loadProblem, restProblem, problemOf, unshownOf, Shows};
 use frame::Frame;
 use libc::STDIN_FILENO;
 use problems::Problem;
+use write::Sent;
 
 pub enum Wanted {
     Text,
@@ -46,22 +47,45 @@ fn asked() -> Wanted {
     wanted_of(os::arg_count(), &arg[..n])
 }
 
+// What came of a file: its problem, and the receipt of what was written.
+pub struct Shown {
+    pub problem: Problem,
+    pub sent: Sent,
+}
+
+// Nothing is written where there is a problem.
+fn unshown(problem: Problem) -> Shown
+    ensures { λ r. ⌜ r ≡ unshownOf problem ⌝ }
+{
+    Shown {
+        problem,
+        sent: write::none_sent(),
+    }
+}
+
 // Loads the field and writes it. The buffers hold frames up to 2048 x 2048 pixels.
-fn show_loaded(file: &[u8], f: Frame, w: Wanted) -> Problem
+fn show_loaded(file: &[u8], f: Frame, w: Wanted) -> Shown
     requires { ⌜ (problemOf (now file) ≡ loadProblem (now file)) × (f ≡ fileFrame (now file)) × (f .width ≤ 2048) × (f .height ≤ 2048) × (endOf (now file) ≤ length (now file)) ⌝ }
-    ensures { λ r. ⌜ Told (problemOf (now (file .entry))) r ⌝ }
+    ensures { λ r. ⌜ Shows w (now (file .entry)) r ⌝ }
 {
     let mut field_y = [levels::INVALID_MV; 65536];
     let mut field_x = [0i32; 65536];
     let mut field_ref = [0u8; 65536];
     let said = from_file::load_field(file, f, &mut field_y, &mut field_x, &mut field_ref);
     if checks::number(said) != 0 {
-        return Problem::Load(said);
+        return unshown(Problem::Load(said));
     }
-    if !write::write_field(w, f, &field_y, &field_x, &field_ref) {
-        return Problem::NotWritten;
+    let sent = write::write_field(w, f, &field_y, &field_x, &field_ref);
+    if sent.failed {
+        return Shown {
+            problem: Problem::NotWritten,
+            sent,
+        };
     }
-    Problem::Nothing
+    Shown {
+        problem: Problem::Nothing,
+        sent,
+    }
 }
 
 // Are there no tile columns, or does the last not end at the frame's width?
@@ -76,46 +100,46 @@ fn bad_columns(file: &[u8], n: usize, wide: usize) -> bool
 }
 
 // The setup is accepted: tests of length and tile columns, then the loads.
-fn show_rest(file: &[u8], f: Frame, w: Wanted) -> Problem
+fn show_rest(file: &[u8], f: Frame, w: Wanted) -> Shown
     requires { ⌜ (problemOf (now file) ≡ restProblem (now file)) × (f ≡ fileFrame (now file)) × (f .width ≤ 2048) × (f .height ≤ 2048) × (103 ≤ length (now file)) ⌝ }
-    ensures { λ r. ⌜ Told (problemOf (now (file .entry))) r ⌝ }
+    ensures { λ r. ⌜ Shows w (now (file .entry)) r ⌝ }
 {
     let n = from_file::columns_of(file);
     let wide = checks::wide_of(f);
     let present = framefile::present_of(file);
     let end = framefile::plane_at(present, n, wide, checks::high_of(f), 7);
     if file.len() < end {
-        return Problem::TooShort;
+        return unshown(Problem::TooShort);
     }
     if bad_columns(file, n, wide) {
-        return Problem::TileColumns;
+        return unshown(Problem::TileColumns);
     }
     if end < file.len() {
-        return Problem::TooLong;
+        return unshown(Problem::TooLong);
     }
     show_loaded(file, f, w)
 }
 
-fn show(file: &[u8], w: Wanted) -> Problem
-    ensures { λ r. ⌜ Told (problemOf (now (file .entry))) r ⌝ }
+fn show(file: &[u8], w: Wanted) -> Shown
+    ensures { λ r. ⌜ Shows w (now (file .entry)) r ⌝ }
 {
     if file.len() < 103 {
-        return Problem::TooShort;
+        return unshown(Problem::TooShort);
     }
     if !framefile::is_frame_file(file) {
-        return Problem::NotAFrameFile;
+        return unshown(Problem::NotAFrameFile);
     }
     let setup = frame::init_frame(framefile::header_of(file));
     let said = setup.said;
     if frame::number(said) != 0 {
-        return Problem::Setup(said);
+        return unshown(Problem::Setup(said));
     }
     let f = setup.frame;
     if 2048 < f.width {
-        return Problem::TooLarge;
+        return unshown(Problem::TooLarge);
     }
     if 2048 < f.height {
-        return Problem::TooLarge;
+        return unshown(Problem::TooLarge);
     }
     show_rest(file, f, w)
 }
@@ -132,7 +156,8 @@ fn show_input(w: Wanted, file: &mut [u8]) -> Problem
     requires { ⌜ 103 + 4 * 255 + 7 * (6 * (256 * 256)) < length (now file) ⌝ }
 {
     let n = io::read_full(STDIN_FILENO, file);
-    show(&file[..n], w)
+    let shown = show(&file[..n], w);
+    shown.problem
 }
 
 fn run(w: Wanted) -> Problem {

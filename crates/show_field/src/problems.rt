@@ -1,4 +1,9 @@
 // Why a file cannot be shown, and the line that says so.
+ghost use mathlib.Core.Path.{_≡_};
+ghost use Prim.Native.Nat.{_+_, _≤_};
+ghost use lib.ListN.{length};
+ghost use Rattle.text.specs.Put.{Put};
+ghost use Rattle.show_field.specs.Lines.{line, setupLine, loadLine, lineOf};
 use checks::LoadAnswer;
 use frame::Said;
 use libc::STDERR_FILENO;
@@ -16,59 +21,88 @@ pub enum Problem {
     NotWritten,
 }
 
-fn line(text: &[u8]) {
-    io::write_all(STDERR_FILENO, text);
+// Each put function writes its line to the front of out, and answers where it ends: at 0 where there is none.
+fn put_message(message: &[u8], out: &mut [u8]) -> usize
+    requires { ⌜ (length (now message) ≤ 67) × (80 ≤ length (now out)) ⌝ }
+    ensures { λ r. ⌜ Put (now (out .entry)) 0 80 (line (now (message .entry))) (now (out .exit)) r ⌝ }
+{
+    let a = text::put_word(b"show_field: ", out, 0);
+    let b = text::put_word(message, out, a);
+    text::put_byte(b'\n', out, b)
 }
 
-fn tell_setup(said: Said) {
+fn put_setup(said: Said, out: &mut [u8]) -> usize
+    requires { ⌜ 80 ≤ length (now out) ⌝ }
+    ensures { λ r. ⌜ Put (now (out .entry)) 0 80 (setupLine said) (now (out .exit)) r ⌝ }
+{
     match said {
-        Said::Accepted => {}
-        Said::TooManyBits => line(b"show_field: the setup is refused, 3: hint bits above 8\n"),
-        Said::TooManySlots => line(b"show_field: the setup is refused, 4: slots above 7\n"),
-        Said::BadSuperblock => line(
-            b"show_field: the setup is refused, 5: superblock code above 2\n",
+        Said::Accepted => 0,
+        Said::TooManyBits => put_message(b"the setup is refused, 3: hint bits above 8", out),
+        Said::TooManySlots => put_message(b"the setup is refused, 4: slots above 7", out),
+        Said::BadSuperblock => put_message(
+            b"the setup is refused, 5: superblock code above 2",
+            out,
         ),
-        Said::BadStep => line(b"show_field: the setup is refused, 6: step not 1 or 2\n"),
-        Said::BadSize => line(
-            b"show_field: the setup is refused, 7: width or height not 1..65536\n",
+        Said::BadStep => put_message(b"the setup is refused, 6: step not 1 or 2", out),
+        Said::BadSize => put_message(
+            b"the setup is refused, 7: width or height not 1..65536",
+            out,
         ),
-        Said::BadTipSlot => line(
-            b"show_field: the setup is refused, 8: TIP slot not a slot in use\n",
+        Said::BadTipSlot => put_message(
+            b"the setup is refused, 8: TIP slot not a slot in use",
+            out,
         ),
     }
 }
 
-fn tell_load(said: LoadAnswer) {
+fn put_load(said: LoadAnswer, out: &mut [u8]) -> usize
+    requires { ⌜ 80 ≤ length (now out) ⌝ }
+    ensures { λ r. ⌜ Put (now (out .entry)) 0 80 (loadLine said) (now (out .exit)) r ⌝ }
+{
     match said {
-        LoadAnswer::Loaded => {}
-        LoadAnswer::SetupOutOfRange => line(
-            b"show_field: the load is refused, 9: setup out of range\n",
+        LoadAnswer::Loaded => 0,
+        LoadAnswer::SetupOutOfRange => put_message(
+            b"the load is refused, 9: setup out of range",
+            out,
         ),
-        LoadAnswer::TileOutOfRange => line(
-            b"show_field: the load is refused, 10: a tile's columns or rows\n",
+        LoadAnswer::TileOutOfRange => put_message(
+            b"the load is refused, 10: a tile's columns or rows",
+            out,
         ),
-        LoadAnswer::TooShort => line(
-            b"show_field: the load is refused, 11: planes or store too short\n",
+        LoadAnswer::TooShort => put_message(
+            b"the load is refused, 11: planes or store too short",
+            out,
         ),
-        LoadAnswer::ContentsOutOfRange => line(
-            b"show_field: the load is refused, 12: a saved block out of range\n",
+        LoadAnswer::ContentsOutOfRange => put_message(
+            b"the load is refused, 12: a saved block out of range",
+            out,
         ),
+    }
+}
+
+fn put_line(p: Problem, out: &mut [u8]) -> usize
+    requires { ⌜ 80 ≤ length (now out) ⌝ }
+    ensures { λ r. ⌜ Put (now (out .entry)) 0 80 (lineOf p) (now (out .exit)) r ⌝ }
+{
+    match p {
+        Problem::Nothing => 0,
+        Problem::Usage => put_message(b"usage: show_field [text | picture] < FILE", out),
+        Problem::TooShort => put_message(b"the file is too short", out),
+        Problem::NotAFrameFile => put_message(b"not a frame file of version 1", out),
+        Problem::Setup(said) => put_setup(said, out),
+        Problem::TooLarge => put_message(b"the frame is larger than 2048 x 2048 pixels", out),
+        Problem::TileColumns => put_message(
+            b"the tile columns do not end at the frame's width",
+            out,
+        ),
+        Problem::TooLong => put_message(b"the file is too long", out),
+        Problem::Load(said) => put_load(said, out),
+        Problem::NotWritten => put_message(b"the output cannot be written", out),
     }
 }
 
 pub fn tell(p: Problem) {
-    match p {
-        Problem::Nothing => {}
-        Problem::Usage => line(b"show_field: usage: show_field [text | picture] < FILE\n"),
-        Problem::TooShort => line(b"show_field: the file is too short\n"),
-        Problem::NotAFrameFile => line(b"show_field: not a frame file of version 1\n"),
-        Problem::Setup(said) => tell_setup(said),
-        Problem::TooLarge => line(b"show_field: the frame is larger than 2048 x 2048 pixels\n"),
-        Problem::TileColumns => line(
-            b"show_field: the tile columns do not end at the frame's width\n",
-        ),
-        Problem::TooLong => line(b"show_field: the file is too long\n"),
-        Problem::Load(said) => tell_load(said),
-        Problem::NotWritten => line(b"show_field: the output cannot be written\n"),
-    }
+    let mut out = [0u8; 80];
+    let n = put_line(p, &mut out);
+    text::write_front(STDERR_FILENO, &out, n);
 }

@@ -5,7 +5,6 @@ ghost use mathlib.Core.List.{[], _∷_};
 ghost use lib.ListN.{length};
 ghost use Rattle.text.specs.Decimal.{natural, decimal, signedByte};
 ghost use Rattle.text.specs.Put.{Put, Places};
-use libc::STDOUT_FILENO;
 
 // The byte as a signed number of eight bits.
 pub fn signed_byte(b: u8) -> i8
@@ -108,9 +107,21 @@ pub fn put_count(n: u64, out: &mut [u8], at: usize) -> usize
     put_word(&spelt[..k], out, at)
 }
 
-// Writes the first n bytes of out to standard output; false where that fails.
-pub fn write_front(out: &[u8], n: usize) -> bool
+// A write's receipt: how many bytes were handed over, and whether that failed. No contract can say what goes out, so the
+// contracts of those that write speak of their receipts.
+pub struct Written {
+    pub bytes: usize,
+    pub failed: bool,
+}
+
+// Writes the first n bytes of out to the descriptor.
+pub fn write_front(fd: i32, out: &[u8], n: usize) -> Written
     requires { ⌜ n ≤ length (now out) ⌝ }
+    ensures { λ r. ⌜ r .bytes ≡ n ⌝ }
 {
-    io::write_all(STDOUT_FILENO, &out[..n])
+    let is_written = io::write_all(fd, &out[..n]);
+    Written {
+        bytes: n,
+        failed: !is_written,
+    }
 }

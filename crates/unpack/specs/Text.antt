@@ -1,6 +1,6 @@
--- What the program writes (01, "Table to be proved"), as a list of bytes in ASCII. Assumes nothing.
+-- What the program writes (01, "Table to be proved"), as a list of bytes. Assumes nothing.
 use mathlib.Core.Path.{_≡_}
-use mathlib.Core.Bool.{cond}
+use mathlib.Core.Bool.{Bool, cond, not, _||_}
 use mathlib.Core.List.{List, [], _∷_, _++_}
 use Prim.Native.Nat.{ℕ, _*_}
 use lib.Dec.{eqb}
@@ -11,23 +11,25 @@ use Rattle.levels.specs.declared.Mv.{Mv}
 use Rattle.levels.specs.Vector.{empty}
 use Rattle.levels.specs.Answer.{Said}
 use Rattle.mv.specs.Packing.{unpacked}
+use Rattle.text.specs.Ascii.{ascii}
 use Rattle.text.specs.Decimal.{natural, decimal, signedByte}
+use Rattle.unpack.specs.declared.Turn.{Turn}
 
--- the line `empty`, with its line feed, 10
+-- the line `empty`
 abbrev pub emptyLine : List ℕ
-emptyLine = 101 ∷ 109 ∷ 112 ∷ 116 ∷ 121 ∷ 10 ∷ []
+emptyLine = ascii "empty\n"
 
 -- the line `short`
 abbrev pub shortLine : List ℕ
-shortLine = 115 ∷ 104 ∷ 111 ∷ 114 ∷ 116 ∷ 10 ∷ []
+shortLine = ascii "short\n"
 
 -- the line `refused n`
 abbrev pub refusedLine : ℕ → List ℕ
-refusedLine n = (114 ∷ 101 ∷ 102 ∷ 117 ∷ 115 ∷ 101 ∷ 100 ∷ 32 ∷ []) ++ natural n ++ (10 ∷ [])
+refusedLine n = ascii "refused " ++ natural n ++ ascii "\n"
 
 -- the line of two numbers: y, a space, x, a line feed
 unfoldable pub numbersLine : ℤ → ℤ → List ℕ
-numbersLine y x = decimal y ++ (32 ∷ []) ++ decimal x ++ (10 ∷ [])
+numbersLine y x = decimal y ++ ascii " " ++ decimal x ++ ascii "\n"
 
 -- the line of a vector: `empty` by its y
 abbrev pub vectorLine : Mv → List ℕ
@@ -47,6 +49,10 @@ text [] = []
 text (b ∷ []) = shortLine
 text (y ∷ x ∷ rest) = pairLine y x ++ text rest
 
+-- is the turn the last? A read that is not full is the input's end, a write that fails ends the run, and turns are counted down
+abbrev pub isLast : Turn → ℕ → Bool
+isLast t size = eqb (t .left) 0 || t .written .failed || not (eqb (t .read) size)
+
 -- ---- what is proved of it besides (proofs/Text.antt)
 
 -- the text of an input is that of its parts, where each part but the last has whole pairs: so the program may take it in parts of an even size
@@ -57,4 +63,4 @@ InParts = (pairs : ℕ) (a b : List ℕ) → length a ≡ 2 * pairs → text (a 
 abbrev pub Example : Type 0
 Example =
     text (0x05 ∷ 0xE0 ∷ 0x80 ∷ 0x80 ∷ 0x80 ∷ 0x00 ∷ [])
-    ≡ (53 ∷ 32 ∷ 45 ∷ 51 ∷ 50 ∷ 10 ∷ []) ++ emptyLine ++ (114 ∷ 101 ∷ 102 ∷ 117 ∷ 115 ∷ 101 ∷ 100 ∷ 32 ∷ 50 ∷ 10 ∷ [])
+    ≡ ascii "5 -32\nempty\nrefused 2\n"

@@ -1,17 +1,20 @@
 // Reads packed vectors from standard input, two signed bytes each, y first, and writes a line for
 // each: y and x, `empty`, or `refused 2`; `short` for a lone last byte.
+ghost use mathlib.Core.Bool.{true};
 ghost use mathlib.Core.Path.{_≡_};
 ghost use Prim.Native.Nat.{_+_, _*_, _%_, _≤_, _<_};
 ghost use mathlib.Core.List.{[], _∷_};
 ghost use lib.ListN.{length, take};
 ghost use Rattle.io.specs.Counts.{Counts};
 ghost use Rattle.mv.specs.Packing.{unpacked};
-ghost use Rattle.unpack.specs.Text.{numbersLine, lineOf, text};
+ghost use Rattle.unpack.specs.Text.{numbersLine, lineOf, text, isLast};
 ghost use Rattle.text.specs.Put.{Put};
 use levels::MvAnswer;
 use levels::QMv;
+use libc::STDERR_FILENO;
 use libc::STDIN_FILENO;
 use libc::STDOUT_FILENO;
+use text::Written;
 
 fn put_vector(y: i32, x: i32, out: &mut [u8], at: usize) -> usize
     requires { ⌜ at + 24 ≤ length (now out) ⌝ }
@@ -60,30 +63,62 @@ fn put_text(input: &[u8], out: &mut [u8]) -> usize
     at
 }
 
-// Reads once and writes the text; answers whether to go on. Only the last read is not full, so no
-// pair is split.
-fn unpack_some(input: &mut [u8], out: &mut [u8]) -> bool
+// A turn's receipt: how many turns may follow, how many bytes were read, and what came of writing their text.
+pub struct Turn {
+    pub left: u64,
+    pub read: usize,
+    pub written: Written,
+}
+
+// Reads once and writes the text.
+fn unpack_some(left: u64, input: &mut [u8], out: &mut [u8]) -> Turn
     requires { ⌜ 12 * length (now input) ≤ length (now out) ⌝ }
+    ensures { λ r. ⌜ (r .left ≡ left) × (take (r .written .bytes) (now (out .exit)) ≡ text (take (r .read) (now (input .exit)))) ⌝ }
 {
-    let n = io::read_full(STDIN_FILENO, input);
-    let end = put_text(&input[..n], out);
-    let is_written = io::write_all(STDOUT_FILENO, &out[..end]);
-    is_written && n == input.len()
+    let read = io::read_full(STDIN_FILENO, input);
+    let end = put_text(&input[..read], out);
+    let written = text::write_front(STDOUT_FILENO, out, end);
+    Turn {
+        left,
+        read,
+        written,
+    }
+}
+
+// Only the last read is not full, so no pair is split.
+fn is_last(turn: Turn, size: usize) -> bool
+    ensures { λ r. ⌜ r ≡ isLast turn size ⌝ }
+{
+    let written = turn.written;
+    if turn.left == 0 {
+        return true;
+    }
+    if written.failed {
+        return true;
+    }
+    turn.read != size
 }
 
 // A proved loop has to end, and nothing says that the input does: so it counts its turns down from
 // a number that no run uses up.
-fn unpack_all(input: &mut [u8], out: &mut [u8])
+fn unpack_all(input: &mut [u8], out: &mut [u8]) -> Turn
     requires { ⌜ 12 * length (now input) ≤ length (now out) ⌝ }
+    ensures { λ r. ⌜ isLast r (length (now (input .entry))) ≡ true ⌝ }
 {
-    let mut turns = u64::MAX;
-    while 0 < turns && unpack_some(input, out) {
-        turns -= 1;
+    let size = input.len();
+    let mut turn = unpack_some(u64::MAX, input, out);
+    while !is_last(turn, size) {
+        turn = unpack_some(turn.left - 1, input, out);
     }
+    turn
 }
 
 fn main() {
     let mut input = io::buffer();
     let mut out = io::large_buffer();
-    unpack_all(&mut input, &mut out);
+    let last = unpack_all(&mut input, &mut out);
+    let written = last.written;
+    if written.failed {
+        io::write_all(STDERR_FILENO, b"unpack: the output cannot be written\n");
+    }
 }

@@ -1,5 +1,4 @@
 -- `show_field::show_loaded` meets its contract. Assumes nothing.
-use mathlib.Core.Logic.{inl, inr}
 use mathlib.Core.Path.{refl, sym, ap, _∙_}
 use Prim.Native.Nat.{ℕ}
 use lib.ListN.{length-replicate}
@@ -7,7 +6,9 @@ use borrow.Author.Needs.{needs}
 use Rattle.levels.specs.Vector.{empty}
 use Rattle.show_field.proofs.Parts.{still-long}
 use Rattle.show_field.specs.declared.problems.Problem.the-variants.{Load}
+use Rattle.show_field.specs.Output.{partsOf}
 use Rattle.show_field.specs.Shown.{emptyStore, answerOf}
+use Rattle.show_field.proofs.Shows.{unshown-shows, sent-shows}
 use Rattle.show_field.proofs.Tests.{load-refused, load-fine, answer-as}
 use Rattle.show_field.proofs.show_loaded.Statement.{statement}
 use Rattle.show_field.proofs.show_loaded.Tie as tie
@@ -28,13 +29,17 @@ load-field-requires c κs = let p = c .before .before .before .before .pre in ((
 number-requires : tie.Need-number-requires
 number-requires c κs = search needs
 
+unshown-requires : tie.Need-unshown-requires
+unshown-requires c κs = search needs
+
 returns : tie.Need-returns
 returns c =
-    let s = c .before .before .before .before .before .before .before .before .before .before in
-    let said = c .before .before .before .before .before .load-field in
-    let n = c .before .number in
-    let e = load-refused (s .args .file .now) (n .result) (n .ensures ∙ said .ensures .0) (c .if1 .taken) in
-    inl (sym (s .pre .0 ∙ e ∙ ap Load (ap answerOf (n .ensures) ∙ answer-as (said .result))))
+    let d = c .before in
+    let s = d .before .before .before .before .before .before .before .before .before .before in
+    let said = d .before .before .before .before .before .load-field in
+    let n = d .before .number in
+    let e = load-refused (s .args .file .now) (n .result) (n .ensures ∙ said .ensures .0) (d .if1 .taken) in
+    unshown-shows _ _ _ _ (c .unshown .ensures) (s .pre .0 ∙ e ∙ ap Load (ap answerOf (n .ensures) ∙ answer-as (said .result))) (λ n. refl)
 
 slice-aggregate-write-field : tie.Need-slice-aggregate-write-field
 slice-aggregate-write-field c = search needs
@@ -59,7 +64,7 @@ returns-2 c =
     let said = c .before .before .before .before .before .before .before .before .before .before .load-field in
     let n = c .before .before .before .before .before .before .number in
     let fine = s .pre .0 ∙ load-fine (s .args .file .now) (n .result) (n .ensures ∙ said .ensures .0) (c .before .before .before .before .before .if1 .left) in
-    inr (fine, refl)
+    sent-shows _ _ _ _ (rw (c .if2 .taken) refl) fine (λ z. c .before .write-field .ensures z ∙ ap (partsOf (s .args .w)) (s .pre .1))
 
 returns-3 : tie.Need-returns-3
 returns-3 c =
@@ -67,7 +72,7 @@ returns-3 c =
     let said = c .before .before .before .before .before .before .before .before .before .before .load-field in
     let n = c .before .before .before .before .before .before .number in
     let fine = s .pre .0 ∙ load-fine (s .args .file .now) (n .result) (n .ensures ∙ said .ensures .0) (c .before .before .before .before .before .if1 .left) in
-    inl (sym fine)
+    sent-shows _ _ _ _ (rw (c .if2 .left) refl) fine (λ z. c .before .write-field .ensures z ∙ ap (partsOf (s .args .w)) (s .pre .1))
 
 pub show-loaded-spec : {M : Type 1} → statement M
 show-loaded-spec =
@@ -78,6 +83,7 @@ show-loaded-spec =
     slice-aggregate-load-field-3
     load-field-requires
     number-requires
+    unshown-requires
     returns
     slice-aggregate-write-field
     slice-aggregate-write-field-2

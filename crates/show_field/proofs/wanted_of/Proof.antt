@@ -2,7 +2,7 @@
 use mathlib.Core.Path.{refl}
 use borrow.Author.Needs.{needs}
 use borrow.Author.Tests.{lt-ltb, le-ltb}
-use Rattle.show_field.specs.Asked.{asked, textWord, pictureWord}
+use Rattle.show_field.specs.Asked.{asked}
 use Rattle.show_field.proofs.Words.{word-is}
 use Rattle.show_field.proofs.wanted_of.Statement.{statement}
 use Rattle.show_field.proofs.wanted_of.Tie as tie
@@ -22,7 +22,7 @@ same-requires : tie.Need-same-requires
 same-requires c κs = search needs
 
 returns-3 : tie.Need-returns-3
-unfolding asked textWord
+unfolding asked
 returns-3 c =
     let two = c .before .before .before in
     rw (le-ltb _ _ (two .before .if1 .left), le-ltb _ _ (two .if2 .left), word-is _ _ (c .before .same .ensures), c .if3 .taken) refl
@@ -34,14 +34,14 @@ same-requires-2 : tie.Need-same-requires-2
 same-requires-2 c κs = search needs
 
 returns-4 : tie.Need-returns-4
-unfolding asked textWord pictureWord
+unfolding asked
 returns-4 c =
     let text = c .before .before .before in
     let two = text .before .before .before in
     rw (le-ltb _ _ (two .before .if1 .left), le-ltb _ _ (two .if2 .left), word-is _ _ (text .before .same .ensures), text .if3 .left, word-is _ _ (c .before .same2 .ensures), c .if4 .taken) refl
 
 returns-5 : tie.Need-returns-5
-unfolding asked textWord pictureWord
+unfolding asked
 returns-5 c =
     let text = c .before .before .before in
     let two = text .before .before .before in

@@ -3,8 +3,9 @@ use mathlib.Core.Path.{ap}
 use native.Mathlib.Omega.{arith}
 use borrow.Author.Needs.{needs}
 use Rattle.text.proofs.Put.{put-then, put-within, put-as}
+use Rattle.text.specs.Ascii.{ascii}
 use Rattle.lines.specs.Report.{agreedText}
-use Rattle.replay_loads.specs.Report.{loadsText, refusedText, passesText, talliesText}
+use Rattle.replay_loads.specs.Report.{talliesText}
 use Rattle.replay_loads.proofs.end.put_tallies.Statement.{statement}
 use Rattle.replay_loads.proofs.end.put_tallies.Tie as tie
 
@@ -41,9 +42,9 @@ same-length c = search needs
 returns : tie.Need-returns
 unfolding talliesText
 returns c =
-    let first = put-as (ap (agreedText loadsText) (c .before .before .before .before .before .before .before .before .before .before .before .before .before .before .before .before .before .tally .ensures)) (c .before .before .before .before .before .before .before .before .before .before .before .before .put-agreed .ensures) in
-    let second = put-as (ap (agreedText refusedText) (c .before .before .before .before .before .before .before .before .before .before .before .before .before .before .before .before .tally2 .ensures)) (c .before .before .before .before .before .before .before .put-agreed2 .ensures) in
-    let third = put-as (ap (agreedText passesText) (c .before .before .before .before .before .before .before .before .before .before .before .before .before .before .before .tally3 .ensures)) (c .before .before .put-agreed3 .ensures) in
+    let first = put-as (ap (agreedText (ascii "loads")) (c .before .before .before .before .before .before .before .before .before .before .before .before .before .before .before .before .before .tally .ensures)) (c .before .before .before .before .before .before .before .before .before .before .before .before .put-agreed .ensures) in
+    let second = put-as (ap (agreedText (ascii "refused loads")) (c .before .before .before .before .before .before .before .before .before .before .before .before .before .before .before .before .tally2 .ensures)) (c .before .before .before .before .before .before .before .put-agreed2 .ensures) in
+    let third = put-as (ap (agreedText (ascii "passes")) (c .before .before .before .before .before .before .before .before .before .before .before .before .before .before .before .tally3 .ensures)) (c .before .before .put-agreed3 .ensures) in
     put-within (omega arith) (put-then (put-then first second) third)
 
 pub put-tallies-spec : {M : Type 1} → statement M
