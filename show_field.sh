@@ -12,5 +12,5 @@ text | picture)
     shift
     ;;
 esac
-[ -x "$root/target/bin/show_field" ] || (cd "$root" && rt check show_field >&2)
+prove show_field
 exec "$root/target/bin/show_field" "$form" < "${1:-$root/examples/sample.frame}"

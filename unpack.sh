@@ -5,5 +5,5 @@ set -euo pipefail
 root=$(cd "$(dirname "$0")" && pwd)
 . "$root/tests/setup.sh"
 need rt
-[ -x "$root/target/bin/unpack" ] || (cd "$root" && rt check unpack >&2)
+prove unpack
 exec "$root/target/bin/unpack" < "${1:-$root/examples/sample.mv}"

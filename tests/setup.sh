@@ -15,6 +15,13 @@ together() {
     return "$status"
 }
 
+# prove PROGRAM: proves and builds it where that is not done yet; says so, and shows what rt said where it fails.
+prove() {
+    local said
+    [ -x "$root/target/bin/$1" ] || echo "proving and building $1: some minutes" >&2
+    said=$(cd "$root" && rt check "$1" 2>&1) || { echo "$said" | tail -20 >&2; return 1; }
+}
+
 # need COMMAND..: each is there, or is installed from Debian's packages where that can be done.
 need() {
     local command

@@ -13,24 +13,6 @@ use Rattle.store.specs.Store.{Store}
 use Rattle.tile.specs.declared.Tile.{Tile}
 use Rattle.project.specs.Project.{savedAt, savedRef, savedMv}
 use Rattle.project.specs.Tested.{allBelow, blockFine, rowFine}
-use Rattle.load.specs.Load.{Call}
-use Rattle.checks.specs.declared.LoadAnswer.{LoadAnswer}
-use Rattle.checks.specs.declared.LoadAnswer.the-variants.{Loaded, SetupOutOfRange, TileOutOfRange, TooShort, ContentsOutOfRange}
-
--- the call that a load is asked for, of its parts
-abbrev pub callOf : Frame → Bool → Bool → Bool → ℕ → ℕ → ℕ → ℕ → List ℤ → Call
-callOf f w t h a b c d p =
-    record {
-      setup = f;
-      wholeFrame = w;
-      traj = t;
-      holes = h;
-      colStart = a;
-      colEnd = b;
-      rowStart = c;
-      rowEnd = d;
-      planes = p;
-    }
 
 -- the lengths of a store's lists
 pub record Lengths (s : Store) (fy fx fr ty tx my mx : ℕ) : Type 0 where
@@ -59,11 +41,3 @@ isFine t planes present s = eqZ (s .ref2cur) (negsuc 31) || not present || rowFi
 
 abbrev pub fineAt : Tile → List ℤ → Frame → ℕ → Bool
 fineAt t planes f n = let s = getD (f .sources .mfmv) n noSource in isFine t planes (getD (f .«rp_ref») (s .reference .0) false) s
-
--- the number of an answer (01 "Why a tank is turned back"), 0 for none
-abbrev pub numberOf : LoadAnswer → ℕ
-numberOf Loaded = 0
-numberOf SetupOutOfRange = 9
-numberOf TileOutOfRange = 10
-numberOf TooShort = 11
-numberOf ContentsOutOfRange = 12

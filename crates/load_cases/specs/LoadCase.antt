@@ -10,7 +10,7 @@ use Rattle.store.specs.Store.{Store}
 use Rattle.store.specs.Calls.{called}
 use Rattle.load.specs.Load.{Call}
 use Rattle.load.specs.Calls.{answer, load}
-use Rattle.checks.specs.Code.{callOf}
+use Rattle.checks.specs.Answer.{callOf}
 use Rattle.cases.specs.Numbers.{at, AllInside, isOn}
 use Rattle.frame_cases.specs.FrameCase.{recordOf, Stated}
 use Rattle.load_cases.specs.declared.Asked.{Asked}

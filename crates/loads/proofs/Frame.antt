@@ -19,7 +19,7 @@ use Rattle.loops.proofs.Turns.{row-within}
 use Rattle.load.specs.Load.{Call, sideOf, highOf}
 use Rattle.load.specs.Calls.{answer, load}
 use Rattle.load.proofs.Accepted.{side-low}
-use Rattle.checks.specs.Code.{callOf}
+use Rattle.checks.specs.Answer.{callOf}
 use Rattle.loads.specs.Frame.{rowCalls, rowsCalls, rowsOf, frameCalls, After, after, untilRefused, NoneRefused}
 
 -- ---- a call and those that follow

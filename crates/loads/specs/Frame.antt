@@ -10,7 +10,7 @@ use Rattle.store.specs.Store.{Store}
 use Rattle.store.specs.Calls.{called, asListed}
 use Rattle.load.specs.Load.{Call, sideOf, highOf}
 use Rattle.load.specs.Calls.{answer, load}
-use Rattle.checks.specs.Code.{callOf}
+use Rattle.checks.specs.Answer.{callOf}
 
 -- H / S superblock rows, rounded up
 abbrev pub rowsOf : Frame → ℕ

@@ -3,7 +3,7 @@ ghost use mathlib.Core.Path.{_≡_};
 ghost use mathlib.Core.Bool.{true};
 ghost use Prim.Native.Nat.{_≤_};
 ghost use Rattle.store.specs.Store.{pack};
-ghost use Rattle.checks.specs.Code.{numberOf};
+ghost use Rattle.checks.specs.Answer.{numberOf};
 ghost use Rattle.loads.specs.Frame.{rowCalls, frameCalls, untilRefused, after};
 use checks::LoadAnswer;
 use frame::Frame;

@@ -20,7 +20,7 @@ use Rattle.load.specs.Load.{highOf, strideOf, tileOf}
 use Rattle.load.specs.Calls.{setupInRange, tileFits, longEnough}
 use Rattle.load.proofs.Accepted.{in-range, columns, sound}
 use Rattle.load.proofs.Held.{long, field-held, traj-held, map-held}
-use Rattle.checks.specs.Code.{callOf}
+use Rattle.checks.specs.Answer.{callOf}
 use Rattle.tmvs.proofs.Calls.{rows-above}
 use Rattle.cases.specs.Numbers.{at, Inside, Is32}
 use Rattle.cases.specs.Verdicts.{WhenTrue, WhenAgrees}

@@ -9,7 +9,7 @@ ghost use mathlib.Core.Path.{_≡_};
 ghost use Rattle.store.specs.Store.{pack};
 ghost use Rattle.store.specs.Calls.{called};
 ghost use Rattle.load.specs.Calls.{answer, load};
-ghost use Rattle.checks.specs.Code.{callOf};
+ghost use Rattle.checks.specs.Answer.{callOf};
 ghost use Rattle.lent.specs.Lent.{Gives, GivesBytes, GivesDiff};
 ghost use Rattle.c_setup.specs.Setup.{on, headerOf, givenBy, frameOf};
 use c_setup::CFrame;

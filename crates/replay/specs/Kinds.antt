@@ -1,4 +1,4 @@
--- The kinds of cases, and what replay makes of a line. What is read, no definition can say; what is written, Report.antt says. Assumes nothing.
+-- The kinds of cases, and what replay makes of a line. What is read, no definition can say; what is put into a buffer to be written, Report.antt says. Assumes nothing.
 use mathlib.Core.List.{List, [], _∷_}
 use mathlib.Core.Path.{_≡_}
 use Prim.Native.Nat.{ℕ, zero, suc, _+_, _%_, _^_}
@@ -30,7 +30,7 @@ names =
 unfoldable pub name : ℕ → List ℕ
 name k = getD names k []
 
--- what a line of kind k with the numbers n states, is what the definition gives
+-- what a line of kind k with the numbers n states, is what the definition gives; nothing is promised of a line that does not agree
 pub data Holds (n : List ℤ) : ℕ → Type 0 where
   project : ProjectAgrees n → Holds n 1
   scale : ScaleAgrees n → Holds n 2

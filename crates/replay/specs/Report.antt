@@ -22,5 +22,6 @@ kindsText t = joined (kindLine t) 8 0
 unfoldable pub endText : ℕ → ℕ → ℕ → List ℕ → List ℕ
 endText r sum line word = cond (eqb r ended) (allText sum) (cond (eqb r notACase) (whyText line (ascii "not a case")) (differsText line word))
 
+-- the whole report
 unfoldable pub reportText : ℕ → State → List ℕ → List ℕ → List ℕ
 reportText r s word t = kindsText t ++ endText r (agreed 8 t) (s .line) (take (s .letters) word)

@@ -1,7 +1,7 @@
 -- Laws of the words, and of what is made of a call. Assumes nothing.
 use mathlib.Core.Bool.{Bool, true, false, not, cond, _&&_}
 use mathlib.Core.List.{List}
-use mathlib.Core.Path.{_≡_, refl, _∙_}
+use mathlib.Core.Path.{_≡_, refl, ap, _∙_}
 use Prim.Native.Nat.{ℕ, zero, suc, _≤_, _<_}
 use native.Mathlib.Omega.{arith}
 use lib.Dec.{eqb}
@@ -13,10 +13,11 @@ use Rattle.cases.specs.declared.Verdict.{Verdict}
 use Rattle.cases.specs.declared.Verdict.the-variants.{Agrees, Differs, NotACase}
 use Rattle.cases.specs.Numbers.{at, isOn, Inside}
 use Rattle.cases.specs.Verdicts.{WhenTrue, WhenAgrees}
+use Rattle.cases.proofs.Verdicts.{roomy}
 use Rattle.kept_cases.specs.KeptCase.{CaseAgrees}
 use Rattle.replay_loads.specs.declared.book.Book.{Book}
 use Rattle.replay_loads.specs.Words.{name, Numbered}
-use Rattle.replay_loads.specs.Calls.{copied, differs, notALine, passed, isFree, kindOf, left, tallied, SetLeaves, sets, setStops, NamedLeaves, names, namesNone, ChangeLeaves, changes, changeStops, MayCheck, Checked, counts, stops}
+use Rattle.replay_loads.specs.Calls.{copied, differs, notALine, passed, isFree, named, kindOf, left, tallied, SetLeaves, sets, setStops, NamedLeaves, names, namesNone, ChangeLeaves, changes, changeStops, MayCheck, Checked, counts, stops}
 use Rattle.replay_loads.specs.Lists.{Placed}
 
 -- the number of one of the seven words
@@ -85,6 +86,6 @@ set-go b false false y e p q h = setStops h
 pub set-as : (b : Book) {r : Book} {n cells want l w : List ℤ} (x y : Bool) → Placed x (b .lengths) n cells l → Placed y (b .lengths) n want w → r ≡ passed (isFree b && (x && y)) b → SetLeaves b n cells want l w r
 set-as b x y p q h = set-go b (isFree b) x y refl p q h
 
-pub change-as : {b r : Book} {n want w : List ℤ} (x : Bool) → Placed x (b .lengths) n want w → NamedLeaves b x r → ChangeLeaves b n want w r
-change-as x p (names e h) = changes (p .put e .0) (p .put e .1) h
+pub change-as : {b r : Book} {n want w : List ℤ} (x : Bool) → Placed x (b .lengths) n want w → NamedLeaves b n x r → ChangeLeaves b n want w r
+change-as {b} x p (names e f g h) = changes (p .put e .0) (p .put e .1) f (h ∙ ap (λ (d : ℕ). named d b) (g (roomy (omega arith) (p .put e .0 .whole 2 (omega arith) (omega arith)))))
 change-as x p (namesNone h) = changeStops h

@@ -1,8 +1,8 @@
 -- What replay_loads makes of a line: a call is counted only if a `check` line finds that it agrees. Assumes nothing.
-use mathlib.Core.Bool.{Bool, true, cond, _&&_}
+use mathlib.Core.Bool.{Bool, true, false, cond, _&&_}
 use mathlib.Core.List.{List}
 use mathlib.Core.Path.{_≡_}
-use Prim.Native.Nat.{ℕ, _+_, _<_, min}
+use Prim.Native.Nat.{ℕ, _+_, _%_, _^_, _<_, min}
 use lib.Dec.{eqb}
 use lib.IntN.{ℤ, pos, natAbs}
 use lib.ListN.{length, take, getD}
@@ -53,17 +53,19 @@ passed may b = cond may b (ended notALine b)
 abbrev pub isFree : Book → Bool
 isFree b = eqb (b .call) 0
 
--- a setup of k numbers; and a call of k numbers, on this line: no element is named as changed since
+-- there is a setup of k numbers
 abbrev pub setUp : ℕ → Book → Book
 setUp k b = fields (b .ended) (b .lengths) k (b .call) (b .line) (b .changed)
 
+-- a call of k numbers is begun on line l: no element is named as changed since
 abbrev pub begun : ℕ → ℕ → Book → Book
 begun k l b = fields (b .ended) (b .lengths) (b .setup) k l 0
 
--- what a `setup` line of m numbers leaves; and a `call` or a `pass` line, for calls of k numbers
+-- what a `setup` line of m numbers leaves
 abbrev pub setupLeaves : ℕ → Book → Book
 setupLeaves m b = cond (isFree b) (passed (eqb m 171) (setUp m b)) (ended notALine b)
 
+-- what a `call` or a `pass` line of m numbers leaves: it takes k, and no call may wait for its check
 abbrev pub callLeaves : ℕ → ℕ → ℕ → Book → Book
 callLeaves k l m b = cond (isFree b && eqb m k) (begun k l b) (ended notALine b)
 
@@ -71,12 +73,13 @@ callLeaves k l m b = cond (isFree b && eqb m k) (begun k l b) (ended notALine b)
 abbrev pub kindOf : ℕ → List ℤ → ℕ
 kindOf k n = cond (eqb k 14) 2 (cond (isOn (at n 7)) 1 0)
 
--- what a verdict leaves of the book and of the tallies
+-- what a verdict leaves of the book
 abbrev pub left : Verdict → Book → Book
 left Agrees b = checked b
 left Differs b = ended differs b
 left NotACase b = ended notALine b
 
+-- and of the tallies
 abbrev pub tallied : Verdict → ℕ → List ℕ → List ℕ
 tallied Agrees kind t = countedUp kind t
 tallied Differs kind t = t
@@ -89,19 +92,19 @@ pub record MayCheck (b : Book) (n : List ℤ) : Type 0 where
   pub isSetUp : b .setup ≡ 0 → ⊥
   pub allNamed : Inside (pos 0) (pos 9223372036854775807) (at n 0) → b .changed ≡ natAbs (at n 0)
 
--- what a `check` line leaves: the call has agreed and is counted, and the lists are the wanted ones; or the run ends, and nothing is counted
+-- what a `check` line leaves: the call has agreed and is counted, and the lists are the wanted ones; or the run ends, not as one that has taken all, and nothing is counted
 pub data Checked (b : Book) (n setup call cells want left : List ℤ) (before after : List ℕ) (r : Book) : Type 0 where
   counts : MayCheck b n → CaseAgrees (b .lengths) cells want setup (take (b .call) call) → after ≡ countedUp (kindOf (b .call) call) before → left ≡ copied want cells → r ≡ checked b → Checked b n setup call cells want left before after r
-  stops : {why : ℕ} → 0 < why → after ≡ before → r ≡ ended why b → Checked b n setup call cells want left before after r
+  stops : {why : ℕ} → allTaken < why → after ≡ before → r ≡ ended why b → Checked b n setup call cells want left before after r
 
 -- the first k lists have the lengths that a `case` line states
 abbrev pub LengthsStated : ℕ → List ℤ → List ℕ → Type 0
 LengthsStated k n lengths = (i : ℕ) → i < k → Inside (pos 0) (pos 9223372036854775807) (at n (i + 1)) → getD lengths i 0 ≡ natAbs (at n (i + 1))
 
--- what a `case` line leaves of the book: a new one, with the lengths that it states; or the run ends
+-- what a `case` line leaves of the book, where no call waits for its check: a new one, with the lengths that it states; or the run ends, not as one that has taken all
 pub data CaseLeaves (b : Book) (n : List ℤ) (r : Book) : Type 0 where
-  opens : length n ≡ 9 → r .ended ≡ 0 → r .setup ≡ 0 → r .call ≡ 0 → LengthsStated 8 n (r .lengths) → CaseLeaves b n r
-  opensNone : {why : ℕ} → 0 < why → r ≡ ended why b → CaseLeaves b n r
+  opens : isFree b ≡ true → length n ≡ 9 → r .ended ≡ 0 → r .setup ≡ 0 → r .call ≡ 0 → LengthsStated 8 n (r .lengths) → CaseLeaves b n r
+  opensNone : {why : ℕ} → allTaken < why → r ≡ ended why b → CaseLeaves b n r
 
 -- elements were named as changed, d since the call
 abbrev pub named : ℕ → Book → Book
@@ -112,14 +115,14 @@ pub data SetLeaves (b : Book) (n cells want left want2 : List ℤ) (r : Book) : 
   sets : Lies (b .lengths) n → left ≡ linePut n cells → want2 ≡ linePut n want → r ≡ passed (isFree b) b → SetLeaves b n cells want left want2 r
   setStops : r ≡ ended notALine b → SetLeaves b n cells want left want2 r
 
--- what a `changed` line leaves of the book, if its values were put or not
-pub data NamedLeaves (b : Book) (isSet : Bool) (r : Book) : Type 0 where
-  names : {d : ℕ} → isSet ≡ true → r ≡ named d b → NamedLeaves b isSet r
-  namesNone : r ≡ ended notALine b → NamedLeaves b isSet r
+-- what a `changed` line of the numbers n leaves of the book, if its values were put or not: after a call, so many elements more were named, in 64 bits
+pub data NamedLeaves (b : Book) (n : List ℤ) (isSet : Bool) (r : Book) : Type 0 where
+  names : {d : ℕ} → isSet ≡ true → isFree b ≡ false → (Inside (pos 0) (pos 9223372036854775807) (at n 2) → d ≡ (b .changed + natAbs (at n 2)) % 2 ^ 64) → r ≡ named d b → NamedLeaves b n isSet r
+  namesNone : r ≡ ended notALine b → NamedLeaves b n isSet r
 
 -- and of the wanted lists: they have its values; or the run ends
 pub data ChangeLeaves (b : Book) (n want want2 : List ℤ) (r : Book) : Type 0 where
-  changes : {d : ℕ} → Lies (b .lengths) n → want2 ≡ linePut n want → r ≡ named d b → ChangeLeaves b n want want2 r
+  changes : Lies (b .lengths) n → want2 ≡ linePut n want → isFree b ≡ false → r ≡ named ((b .changed + natAbs (at n 2)) % 2 ^ 64) b → ChangeLeaves b n want want2 r
   changeStops : r ≡ ended notALine b → ChangeLeaves b n want want2 r
 
 -- what a line of word k, with the numbers n, leaves of the setup's and the call's numbers, the lists, the tallies and the book

@@ -1,4 +1,4 @@
--- The words of lines. What is read, no definition can say; what is written, Report.antt says. Assumes nothing.
+-- The words of lines. What is read, no definition can say; what is put into a buffer to be written, Report.antt says. Assumes nothing.
 use mathlib.Core.List.{List, [], _∷_}
 use mathlib.Core.Path.{_≡_}
 use Prim.Native.Nat.{ℕ, _≤_, _<_}
@@ -18,6 +18,7 @@ names =
     ∷ ascii "pass"
     ∷ []
 
+-- word k; what is no word has none
 unfoldable pub name : ℕ → List ℕ
 name k = getD names k []
 

@@ -118,7 +118,7 @@ pub fn begin(mut b: Book, line: u64, count: usize, n: &[i64], call: &mut [i64]) 
 
 // Elements of the store alone are changed, and after a call: list from count value..
 pub fn changed(mut b: Book, n: &[i64], is_set: bool) -> Book
-    ensures { λ r. ⌜ NamedLeaves b «is_set» r ⌝ }
+    ensures { λ r. ⌜ NamedLeaves b (now (n .entry)) «is_set» r ⌝ }
 {
     if n.len() < 3 {
         return ended(b, NOT_A_LINE);

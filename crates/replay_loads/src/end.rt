@@ -48,16 +48,16 @@ fn put_end(b: Book, sum: u64, line: u64, out: &mut [u8], at: usize) -> usize
     requires { ⌜ at + 62 ≤ length (now out) ⌝ }
     ensures { λ r. ⌜ Put (now (out .entry)) at 62 (endText b sum line) (now (out .exit)) r ⌝ }
 {
+    if b.ended == book::ALL_READ {
+        return report::put_all_agree(sum, out, at);
+    }
     if b.ended == book::DIFFERS {
         return put_differing(b, out, at);
     }
     if b.ended == book::NO_ROOM {
         return report::put_why(line, b"no room for the lists of this case", out, at);
     }
-    if b.ended == book::NOT_A_LINE {
-        return report::put_why(line, b"not a line that may stand here", out, at);
-    }
-    report::put_all_agree(sum, out, at)
+    report::put_why(line, b"not a line that may stand here", out, at)
 }
 
 fn put_report(b: Book, line: u64, tallies: &[u64], out: &mut [u8]) -> usize
@@ -77,7 +77,9 @@ fn write_end(b: Book, line: u64, tallies: &[u64], out: &mut [u8]) -> Written
     text::write_front(STDOUT_FILENO, out, n)
 }
 
-pub fn print_end(b: Book, line: u64, tallies: &[u64]) {
+pub fn print_end(b: Book, line: u64, tallies: &[u64])
+    requires { ⌜ (b .ended ≡ 0 → ⊥) ⌝ }
+{
     let mut out = [0u8; 176];
     write_end(b, line, tallies, &mut out);
 }

@@ -9,7 +9,7 @@
 //     call mode trajectories holes column_start column_end row_start row_end answer: a load
 //     pass kind a b y x mv_y mv_x mode trajectories holes column_start column_end row_start row_end: a
 //       pass of a load (crate pass_cases)
-//     changed list from count value..: as set, in the wanted list alone
+//     changed list from count value..: as set, in the wanted list alone, one of 0 to 6
 //     check n: n elements were named as changed; now the load or the pass is made and judged
 //
 // Lists 0 to 6 are the store's seven, 7 the planes. Ends at the first load or pass that differs, or at
@@ -128,7 +128,7 @@ fn judged(b: Book, verdict: Verdict, kind: usize, tallies: &mut [u64]) -> Book
     }
 }
 
-// Once a load or a pass agrees, the lists are the wanted ones.
+// The lists become the wanted ones: only a run that goes on reads them.
 fn check(
     b: Book,
     n: &[i64],

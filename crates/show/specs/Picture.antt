@@ -18,7 +18,7 @@ use Rattle.show.specs.declared.Colour.{Colour}
 abbrev pub lengthOf : ℤ → ℤ → ℕ
 lengthOf y x = natAbs y + natAbs x
 
--- a part of a quarter turn, 0 to 383
+-- a part of a quarter turn, 0 to 384; below 384 where it is used
 abbrev pub part : ℕ → ℕ → ℕ
 part n m = 384 * n / m
 

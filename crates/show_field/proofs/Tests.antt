@@ -11,7 +11,7 @@ use Rattle.frame.specs.declared.Said.the-variants.{Accepted, TooManyBits, TooMa
 use Rattle.frame.specs.Frame.{numberOf}
 use Rattle.checks.specs.declared.LoadAnswer.{LoadAnswer}
 use Rattle.checks.specs.declared.LoadAnswer.the-variants.{Loaded, SetupOutOfRange, TileOutOfRange, TooShort as Short, ContentsOutOfRange}
-use Rattle.checks.specs.Code.{numberOf as answerNumber}
+use Rattle.checks.specs.Answer.{numberOf as answerNumber}
 use Rattle.load.specs.Load.{wideOf}
 use Rattle.framefile.specs.File.{isFrameFile}
 use Rattle.show_field.specs.declared.problems.Problem.the-variants.{Nothing, TooShort, NotAFrameFile, Setup, TooLarge, TileColumns, TooLong, Load}

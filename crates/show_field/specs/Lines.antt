@@ -23,7 +23,7 @@ setupLine BadStep = line (ascii "the setup is refused, 6: step not 1 or 2")
 setupLine BadSize = line (ascii "the setup is refused, 7: width or height not 1..65536")
 setupLine BadTipSlot = line (ascii "the setup is refused, 8: TIP slot not a slot in use")
 
--- "`load_tmvs` refuses a tile with number N"
+-- "`load_tmvs` refuses a tile with number N, 10 or 12"; 9 and 11 come of no file, since the setup has passed and the buffers are long enough
 abbrev pub loadLine : LoadAnswer → List ℕ
 loadLine Loaded = []
 loadLine SetupOutOfRange = line (ascii "the load is refused, 9: setup out of range")
@@ -31,7 +31,7 @@ loadLine TileOutOfRange = line (ascii "the load is refused, 10: a tile's columns
 loadLine Short = line (ascii "the load is refused, 11: planes or store too short")
 loadLine ContentsOutOfRange = line (ascii "the load is refused, 12: a saved block out of range")
 
--- a file that is shown gets no line
+-- the line of each problem; a file that has none gets no line
 abbrev pub lineOf : Problem → List ℕ
 lineOf Nothing = []
 lineOf Usage = line (ascii "usage: show_field [text | picture] < FILE")

@@ -15,7 +15,7 @@ use Rattle.show_field.specs.declared.Wanted.the-variants.{Text, Picture,
 unfoldable pub noneSent : Sent
 noneSent = record { parts = 0; bytes = 0; failed = false }
 
--- how many parts there are: of a text the rows of cells, of a picture its head and the rows of pixels; for the usage's line nothing is loaded
+-- how many parts there are: of a text the rows of cells, of a picture its head and the rows of pixels; `Usage` has none
 abbrev pub partsOf : Wanted → Frame → ℕ
 partsOf Text f = highOf f
 partsOf Picture f = f .height + 1

@@ -63,7 +63,7 @@ saidOf n = cond (eqb n 3) TooManyBits (cond (eqb n 4) TooManySlots (cond (eqb n 
 abbrev pub answerOf : ℕ → LoadAnswer
 answerOf n = cond (eqb n 9) SetupOutOfRange (cond (eqb n 10) TileOutOfRange (cond (eqb n 11) Short (cond (eqb n 12) ContentsOutOfRange Loaded)))
 
--- "A file that cannot be shown", "The first that holds", the last tests first: the loads
+-- the table of "A file that cannot be shown", from its last row up: the loads
 unfoldable pub loadProblem : List ℕ → Problem
 loadProblem b = cond (eqb (loadedOf b .number) 0) Nothing (Load (answerOf (loadedOf b .number)))
 
@@ -85,11 +85,11 @@ problemOf b =
     (cond (ltb 2048 (fileFrame b .height)) TooLarge
     (restProblem b)))))
 
--- what comes of a file with a problem: nothing is written
+-- what comes of a file with a problem: the receipt is that of nothing
 abbrev pub unshownOf : Problem → Shown
 unshownOf p = record { problem = p; sent = noneSent }
 
--- what is written of a file with the problem p whose field has n parts: where there is none all of them, unless a write fails; else nothing
+-- the receipt of a file with the problem p whose field has n parts: where there is no problem it counts all of them, unless a write failed; else it is that of nothing
 abbrev pub Writes : Problem → ℕ → Sent → Type 0
 Writes Nothing n s = s .failed ≡ false → s .parts ≡ n
 Writes Usage n s = s ≡ noneSent
@@ -102,7 +102,7 @@ Writes TooLong n s = s ≡ noneSent
 Writes (Load said) n s = s ≡ noneSent
 Writes NotWritten n s = s ≡ noneSent
 
--- what comes of a file of the bytes b: its problem is told, unless a write failed, and then that is (whether one failed, no contract can say)
+-- what comes of a file of the bytes b: its problem is answered, unless a write failed, and then that is (whether one failed, no contract can say); and the receipt
 pub record Shows (w : Wanted) (b : List ℕ) (r : Shown) : Type 0 where
   pub told : r .problem ≡ cond (r .sent .failed) NotWritten (problemOf b)
   pub written : Writes (problemOf b) (partsOf w (fileFrame b)) (r .sent)

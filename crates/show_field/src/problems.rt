@@ -1,12 +1,13 @@
 // Why a file cannot be shown, and the line that says so.
 ghost use mathlib.Core.Path.{_≡_};
-ghost use Prim.Native.Nat.{_+_, _≤_};
-ghost use lib.ListN.{length};
+ghost use Prim.Native.Nat.{_≤_};
+ghost use lib.ListN.{length, take};
 ghost use Rattle.text.specs.Put.{Put};
 ghost use Rattle.show_field.specs.Lines.{line, setupLine, loadLine, lineOf};
 use checks::LoadAnswer;
 use frame::Said;
 use libc::STDERR_FILENO;
+use text::Written;
 
 pub enum Problem {
     Nothing,
@@ -101,8 +102,15 @@ fn put_line(p: Problem, out: &mut [u8]) -> usize
     }
 }
 
+fn write_line(p: Problem, out: &mut [u8]) -> Written
+    requires { ⌜ 80 ≤ length (now out) ⌝ }
+    ensures { λ r. ⌜ take (r .bytes) (now (out .exit)) ≡ lineOf p ⌝ }
+{
+    let n = put_line(p, out);
+    text::write_front(STDERR_FILENO, out, n)
+}
+
 pub fn tell(p: Problem) {
     let mut out = [0u8; 80];
-    let n = put_line(p, &mut out);
-    text::write_front(STDERR_FILENO, &out, n);
+    write_line(p, &mut out);
 }

@@ -114,7 +114,7 @@ fn write_part(
     field_ref: &[u8],
     out: &mut [u8],
 ) -> Sent
-    requires { ⌜ (f .width ≤ 2048) × (f .height ≤ 2048) × (sent .parts < partsOf w f) × (65536 ≤ length (now «field_y»)) × (65536 ≤ length (now «field_x»)) × (65536 ≤ length (now «field_ref»)) × (14592 ≤ length (now out)) × (sent .failed ≡ false) ⌝ }
+    requires { ⌜ FieldOfFile f (now «field_y») (now «field_x») (now «field_ref») × (f .width ≤ 2048) × (f .height ≤ 2048) × (sent .parts < partsOf w f) × (65536 ≤ length (now «field_y»)) × (65536 ≤ length (now «field_x»)) × (65536 ≤ length (now «field_ref»)) × (14592 ≤ length (now out)) × (sent .failed ≡ false) ⌝ }
     ensures { λ r. ⌜ (r .parts ≡ sent .parts + 1) × (take (r .bytes) (now (out .exit)) ≡ partOf w f (now («field_y» .entry)) (now («field_x» .entry)) (now («field_ref» .entry)) (sent .parts)) ⌝ }
 {
     let k = sent.parts;

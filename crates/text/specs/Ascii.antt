@@ -9,6 +9,6 @@ abbrev pub codesFrom : String → ℕ → ℕ → List ℕ
 codesFrom word zero i = []
 codesFrom word (suc n) i = code (charAt word i) ∷ codesFrom word n (i + 1)
 
--- the bytes of a word in ASCII
+-- the bytes of a word whose characters are all of ASCII
 abbrev pub ascii : String → List ℕ
 ascii word = codesFrom word (len word) 0

@@ -6,7 +6,7 @@ use lib.ListN.{take}
 use Rattle.io.specs.Digits.{digits}
 use Rattle.text.specs.Decimal.{natural}
 
--- the buffer has the text from `at` up to r, at most `most` bytes, behind what it had before `at`
+-- the buffer has the text from `at` up to r, r not included, at most `most` bytes, behind what it had before `at`; nothing is said of the bytes from r on
 pub record Put (before : List ℕ) (at most : ℕ) (text after : List ℕ) (r : ℕ) : Type 0 where
   pub front : take r after ≡ take at before ++ text
   pub room : r ≤ at + most

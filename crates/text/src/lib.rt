@@ -107,8 +107,8 @@ pub fn put_count(n: u64, out: &mut [u8], at: usize) -> usize
     put_word(&spelt[..k], out, at)
 }
 
-// A write's receipt: how many bytes were handed over, and whether that failed. No contract can say what goes out, so the
-// contracts of those that write speak of their receipts.
+// A write's receipt: how many bytes were handed over, and whether that failed, as io::write_all says. No contract can say what
+// goes out, so the contracts of those that write speak of their receipts.
 pub struct Written {
     pub bytes: usize,
     pub failed: bool,

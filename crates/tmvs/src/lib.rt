@@ -3,7 +3,7 @@ ghost use mathlib.Core.Path.{_≡_};
 ghost use Rattle.store.specs.Store.{pack};
 ghost use Rattle.store.specs.Calls.{called};
 ghost use Rattle.load.specs.Calls.{answer, load};
-ghost use Rattle.checks.specs.Code.{callOf, numberOf};
+ghost use Rattle.checks.specs.Answer.{callOf, numberOf};
 use checks::LoadAnswer;
 use frame::Frame;
 

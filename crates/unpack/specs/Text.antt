@@ -49,7 +49,7 @@ text [] = []
 text (b ∷ []) = shortLine
 text (y ∷ x ∷ rest) = pairLine y x ++ text rest
 
--- is the turn the last? A read that is not full is the input's end, a write that fails ends the run, and turns are counted down
+-- is the turn the last, where size is the buffer's length? A read that is not full is the input's end, a write that fails ends the run, and turns are counted down
 abbrev pub isLast : Turn → ℕ → Bool
 isLast t size = eqb (t .left) 0 || t .written .failed || not (eqb (t .read) size)
 

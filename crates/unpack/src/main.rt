@@ -3,7 +3,6 @@
 ghost use mathlib.Core.Bool.{true};
 ghost use mathlib.Core.Path.{_≡_};
 ghost use Prim.Native.Nat.{_+_, _*_, _%_, _≤_, _<_};
-ghost use mathlib.Core.List.{[], _∷_};
 ghost use lib.ListN.{length, take};
 ghost use Rattle.io.specs.Counts.{Counts};
 ghost use Rattle.mv.specs.Packing.{unpacked};
@@ -85,7 +84,7 @@ fn unpack_some(left: u64, input: &mut [u8], out: &mut [u8]) -> Turn
     }
 }
 
-// Only the last read is not full, so no pair is split.
+// The buffer's length, size, is even, and only the last read is not full: so no pair is split.
 fn is_last(turn: Turn, size: usize) -> bool
     ensures { λ r. ⌜ r ≡ isLast turn size ⌝ }
 {
@@ -102,7 +101,7 @@ fn is_last(turn: Turn, size: usize) -> bool
 // A proved loop has to end, and nothing says that the input does: so it counts its turns down from
 // a number that no run uses up.
 fn unpack_all(input: &mut [u8], out: &mut [u8]) -> Turn
-    requires { ⌜ 12 * length (now input) ≤ length (now out) ⌝ }
+    requires { ⌜ (12 * length (now input) ≤ length (now out)) × (length (now input) % 2 ≡ 0) × (0 < length (now input)) ⌝ }
     ensures { λ r. ⌜ isLast r (length (now (input .entry))) ≡ true ⌝ }
 {
     let size = input.len();

@@ -13,7 +13,8 @@ use Rattle.load.specs.Load.{Call, tileOf}
 use Rattle.load.specs.Calls.{setupInRange, tileFits, longEnough, answer}
 use Rattle.load.proofs.Accepted.{in-range, columns, sound}
 use Rattle.load.proofs.Held.{long, traj-held}
-use Rattle.checks.specs.Code.{callOf, Lengths, PlanesHeld}
+use Rattle.checks.specs.Answer.{callOf}
+use Rattle.checks.specs.Code.{Lengths, PlanesHeld}
 use Rattle.checks.proofs.answer_of.Statement.{statement}
 use Rattle.checks.proofs.answer_of.Tie as tie
 

@@ -15,7 +15,8 @@ use Rattle.traj.specs.Traj.{trajInRange}
 use Rattle.project.specs.Tested.{allBelow}
 use Rattle.load.specs.Load.{tileOf}
 use Rattle.load.specs.Calls.{sourceFine, trajsInRange, contentsFine}
-use Rattle.checks.specs.Code.{callOf, fineAt}
+use Rattle.checks.specs.Answer.{callOf}
+use Rattle.checks.specs.Code.{fineAt}
 use Rattle.checks.proofs.contents_fine.Statement.{statement}
 use Rattle.checks.proofs.contents_fine.Tie as tie
 

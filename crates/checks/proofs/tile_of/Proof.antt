@@ -5,7 +5,7 @@ use native.Mathlib.Omega.{arith}
 use borrow.Author.Needs.{needs}
 use Rattle.load.specs.Load.{tileOf}
 use Rattle.load.proofs.Accepted.{in-range, columns, sound}
-use Rattle.checks.specs.Code.{callOf}
+use Rattle.checks.specs.Answer.{callOf}
 use Rattle.checks.proofs.tile_of.Statement.{statement}
 use Rattle.checks.proofs.tile_of.Tie as tie
 

@@ -5,7 +5,7 @@ use Rattle.store.specs.Store.{Store, pack}
 use Rattle.load.specs.Load.{Call}
 use Rattle.load.specs.Calls.{tileFits, answer}
 use Rattle.load.proofs.Accepted.{passed}
-use Rattle.checks.specs.Code.{callOf, numberOf}
+use Rattle.checks.specs.Answer.{callOf, numberOf}
 use Rattle.tmvs.proofs.Calls.{ready, loaded, turned-back}
 use Rattle.tmvs.proofs.load_tmvs.Statement.{statement}
 use Rattle.tmvs.proofs.load_tmvs.Tie as tie

@@ -6,6 +6,7 @@ use lib.ListN.{length, length-set}
 use mir.Syntax.{w64}
 use mir.Val.{SFits}
 use borrow.Author.Needs.{sfits-of, needs}
+use borrow.Author.Tests.{eq-eqb}
 use Rattle.intops.proofs.Signed.{back}
 use Rattle.cases.specs.Numbers.{at}
 use Rattle.replay_loads.specs.Calls.{opens, opensNone, LengthsStated}
@@ -81,7 +82,7 @@ returns-4 : tie.Need-returns-4 Inv-loop μ-loop
 returns-4 c =
     let l = c .before .loop in
     let e : l .list ≡ 8 = omega (arith, c .loop-test .left, l .inv .0) in
-    opens (c .before .before .if2 .left) (l .inv .2) (l .inv .3) (l .inv .4) (λ i h j. l .inv .5 i (omega (arith, h, e)) j)
+    opens (eq-eqb _ 0 (c .before .before .before .if1 .left)) (c .before .before .if2 .left) (l .inv .2) (l .inv .3) (l .inv .4) (λ i h j. l .inv .5 i (omega (arith, h, e)) j)
 
 pub case-spec : {M : Type 1} → statement M
 case-spec =

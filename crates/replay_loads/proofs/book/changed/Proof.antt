@@ -1,7 +1,12 @@
 -- `replay_loads::book::changed` meets its contract. Assumes nothing.
-use mathlib.Core.Path.{refl}
-use borrow.Author.Needs.{needs}
-use borrow.Author.Tests.{not-false}
+use mathlib.Core.Path.{refl, ap, _∙_}
+use Prim.Native.Nat.{ℕ, _+_, _%_, _^_}
+use mir.Syntax.{w64}
+use mir.Val.{SFits}
+use borrow.Author.Needs.{sfits-of, needs}
+use borrow.Author.Tests.{not-false, ne-eqb}
+use Rattle.intops.proofs.Signed.{back}
+use Rattle.cases.specs.Numbers.{at}
 use Rattle.replay_loads.specs.Calls.{names, namesNone}
 use Rattle.replay_loads.proofs.book.changed.Statement.{statement}
 use Rattle.replay_loads.proofs.book.changed.Tie as tie
@@ -43,7 +48,11 @@ wrapping-add-usize-requires : tie.Need-wrapping-add-usize-requires
 wrapping-add-usize-requires c κs = search needs
 
 returns-5 : tie.Need-returns-5
-returns-5 c = names {d = c .wrapping-add-usize .result} (not-false (c .before .before .before .before .before .before .before .before .before .args .is-set) (c .before .before .before .if4 .left)) refl
+returns-5 c =
+    let s = c .before .before .before .before .before .before .before .before .before in
+    let f : SFits w64 (at (s .args .n .now) 2) = sfits-of (c .before .before .to-usize-arg .given) in
+    let more = simp back at (c .before .to-usize .ensures) in
+    names (not-false (s .args .is-set) (c .before .before .before .if4 .left)) (ne-eqb (s .args .b .call) 0 (c .before .before .before .before .before .before .if2 .left)) (λ i. c .wrapping-add-usize .ensures ∙ ap (λ (k : ℕ). (s .args .b .changed + k) % 2 ^ 64) (more i)) refl
 
 pub changed-spec : {M : Type 1} → statement M
 changed-spec =

@@ -13,7 +13,7 @@ write-front-requires : tie.Need-write-front-requires
 write-front-requires c κs = search needs
 
 add-t15 : tie.Need-add-t15
-add-t15 c = let s = c .before .before .before .before .before .before .before .before in omega (arith, s .pre .2, few-parts (s .args .w) (s .args .f) (s .pre .1))
+add-t15 c = let s = c .before .before .before .before .before .before .before .before in omega (arith, s .pre .3, few-parts (s .args .w) (s .args .f) (s .pre .2))
 
 same-length : tie.Need-same-length
 same-length c = search needs

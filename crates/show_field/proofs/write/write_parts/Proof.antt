@@ -33,7 +33,7 @@ write-part-requires : tie.Need-write-part-requires Inv-loop μ-loop
 write-part-requires c κs =
     let s = c .before .before .before .before .before .before .before .before in
     let l = c .before .before .before .loop in
-    (s .pre .1, s .pre .2, omega (arith, c .before .if1 .taken, l .inv .1), s .pre .3, s .pre .4, s .pre .5, omega (arith, s .pre .6, l .inv .0), l .inv .3)
+    (s .pre .0, s .pre .1, s .pre .2, omega (arith, c .before .if1 .taken, l .inv .1), s .pre .3, s .pre .4, s .pre .5, omega (arith, s .pre .6, l .inv .0), l .inv .3)
 
 same-length : tie.Need-same-length Inv-loop μ-loop
 same-length c = search needs
