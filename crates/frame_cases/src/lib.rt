@@ -74,7 +74,7 @@ fn all_saved(n: &[i64]) -> [Saved; 7]
     out
 }
 
-fn switches_at(n: &[i64], k: usize) -> [bool; 7]
+pub fn switches_at(n: &[i64], k: usize) -> [bool; 7]
     requires { ⌜ k + 7 ≤ length (now n) ⌝ }
     ensures { λ r. ⌜ r ≡ switchesAt (now (n .entry)) k ⌝ }
 {

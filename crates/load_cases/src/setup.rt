@@ -1,70 +1,54 @@
 // The setup of a line's numbers. Each is clipped to its field: frame_cases::is_record says whether one was.
+ghost use mathlib.Core.Path.{_≡_};
 ghost use Prim.Native.Nat.{_+_, _≤_};
 ghost use lib.ListN.{length};
+ghost use Rattle.cases.specs.Numbers.{Bytes};
+ghost use Rattle.load_cases.specs.Setup.{bytesAt, signedAt, sourceAt, sourcesAt, tipAt, setupAt, SignedBytes, Factors, SourceNumbers, SourcesNumbers, TipNumbers, SetupNumbers};
 use entry::Source;
 use frame::Frame;
 use frame::Sources;
 use frame::Tip;
 use levels::Slot;
 
-fn switches_at(n: &[i64], k: usize) -> [bool; 7]
-    requires { ⌜ k + 7 ≤ length (now n) ⌝ }
-{
-    [
-        n[k] != 0,
-        n[k + 1] != 0,
-        n[k + 2] != 0,
-        n[k + 3] != 0,
-        n[k + 4] != 0,
-        n[k + 5] != 0,
-        n[k + 6] != 0,
-    ]
-}
-
 fn u8s_at(n: &[i64], k: usize) -> [u8; 7]
     requires { ⌜ k + 7 ≤ length (now n) ⌝ }
+    ensures { λ r. ⌜ (Bytes k (k + 7) (now (n .entry)) → r ≡ bytesAt (now (n .entry)) k) ⌝ }
 {
-    [
-        cases::to_u8(n[k]),
-        cases::to_u8(n[k + 1]),
-        cases::to_u8(n[k + 2]),
-        cases::to_u8(n[k + 3]),
-        cases::to_u8(n[k + 4]),
-        cases::to_u8(n[k + 5]),
-        cases::to_u8(n[k + 6]),
-    ]
+    let mut out = [0; 7];
+    for i in 0..7 {
+        let v = cases::to_u8(n[k + i]);
+        out[i] = v;
+    }
+    out
 }
 
 fn i8s_at(n: &[i64], k: usize) -> [i8; 7]
     requires { ⌜ k + 7 ≤ length (now n) ⌝ }
+    ensures { λ r. ⌜ (SignedBytes k (k + 7) (now (n .entry)) → r ≡ signedAt (now (n .entry)) k) ⌝ }
 {
-    [
-        cases::to_i8(n[k]),
-        cases::to_i8(n[k + 1]),
-        cases::to_i8(n[k + 2]),
-        cases::to_i8(n[k + 3]),
-        cases::to_i8(n[k + 4]),
-        cases::to_i8(n[k + 5]),
-        cases::to_i8(n[k + 6]),
-    ]
+    let mut out = [0; 7];
+    for i in 0..7 {
+        let v = cases::to_i8(n[k + i]);
+        out[i] = v;
+    }
+    out
 }
 
 fn i32s_at(n: &[i64], k: usize) -> [i32; 7]
     requires { ⌜ k + 7 ≤ length (now n) ⌝ }
+    ensures { λ r. ⌜ (Factors k (k + 7) (now (n .entry)) → r ≡ signedAt (now (n .entry)) k) ⌝ }
 {
-    [
-        cases::to_i32(n[k]),
-        cases::to_i32(n[k + 1]),
-        cases::to_i32(n[k + 2]),
-        cases::to_i32(n[k + 3]),
-        cases::to_i32(n[k + 4]),
-        cases::to_i32(n[k + 5]),
-        cases::to_i32(n[k + 6]),
-    ]
+    let mut out = [0; 7];
+    for i in 0..7 {
+        let v = cases::to_i32(n[k + i]);
+        out[i] = v;
+    }
+    out
 }
 
 fn source_at(n: &[i64], k: usize) -> Source
     requires { ⌜ k + 32 ≤ length (now n) ⌝ }
+    ensures { λ r. ⌜ (SourceNumbers (now (n .entry)) k → r ≡ sourceAt (now (n .entry)) k) ⌝ }
 {
     let reference = Slot(cases::to_u8(n[k]));
     let tgt = cases::to_i8(n[k + 1]);
@@ -88,6 +72,7 @@ fn source_at(n: &[i64], k: usize) -> Source
 
 fn sources_of(n: &[i64]) -> Sources
     requires { ⌜ 171 ≤ length (now n) ⌝ }
+    ensures { λ r. ⌜ (SourcesNumbers (now (n .entry)) → r ≡ sourcesAt (now (n .entry))) ⌝ }
 {
     let mfmv_mask = cases::to_u8(n[40]);
     let n_mfmvs = cases::to_usize(n[42]);
@@ -104,6 +89,7 @@ fn sources_of(n: &[i64]) -> Sources
 
 fn tip_of(n: &[i64]) -> Tip
     requires { ⌜ 171 ≤ length (now n) ⌝ }
+    ensures { λ r. ⌜ (TipNumbers (now (n .entry)) → r ≡ tipAt (now (n .entry))) ⌝ }
 {
     let delta = cases::to_i8(n[8]);
     let sf0 = cases::to_i32(n[9]);
@@ -114,6 +100,7 @@ fn tip_of(n: &[i64]) -> Tip
 // Fields and elements in the order of include/refmvs.h.
 pub fn setup_of(n: &[i64]) -> Frame
     requires { ⌜ 171 ≤ length (now n) ⌝ }
+    ensures { λ r. ⌜ (SetupNumbers (now (n .entry)) → r ≡ setupAt (now (n .entry))) ⌝ }
 {
     let width = cases::to_u32(n[0]);
     let height = cases::to_u32(n[1]);
@@ -125,11 +112,11 @@ pub fn setup_of(n: &[i64]) -> Frame
     let tip1 = cases::to_i8(n[7]);
     let tip = tip_of(n);
     let ref_flip = cases::to_usize(n[11]) as u64;
-    let rp_ref = switches_at(n, 12);
-    let ref_sign = switches_at(n, 19);
+    let rp_ref = frame_cases::switches_at(n, 12);
+    let ref_sign = frame_cases::switches_at(n, 19);
     let pocdiff = i8s_at(n, 26);
     let abspocdiff = u8s_at(n, 33);
-    let use_ref_frame_mvs = n[41] != 0;
+    let use_ref_frame_mvs = cases::is_on(n[41]);
     let sources = sources_of(n);
     Frame {
         width,

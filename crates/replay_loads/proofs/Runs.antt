@@ -12,8 +12,8 @@ use lib.ListN.{length, set, take, drop, length-drop}
 use lib.Seq.{take-length, getD-set-same, getD-set-other}
 use borrow.Author.Tests.{ltb-true, ltb-false}
 use Rattle.cases.specs.Numbers.{at, Inside}
-use Rattle.replay_loads.specs.Lists.{againAt, runPut}
-use Rattle.replay_loads.specs.Calls.{LengthsStated}
+use Rattle.replay_loads.specs.Lists.{startOf, againAt, runPut}
+use Rattle.replay_loads.specs.Calls.{LengthsStated, LengthsFit}
 
 again-go : (t : Bool) (k n : ℕ) → ltb k n ≡ t → 0 < n → cond t k 0 < n
 again-go true k n e h = ltb-true k n e
@@ -55,6 +55,25 @@ rest-long n = ap length (rest-all n) ∙ length-drop 3 n
 -- a run by other names
 pub run-as : {v w : List ℤ} {m k i j : ℕ} (to : List ℤ) → v ≡ w → m ≡ k → i ≡ j → runPut v 0 m i to ≡ runPut w 0 k j to
 run-as to e f g = rw (e, f, g) refl
+
+-- lists begin one after the other
+pub starts-rise : (k : ℕ) → k ≤ 7 → startOf k ≤ startOf (k + 1)
+starts-rise zero h = omega arith
+starts-rise (suc zero) h = omega arith
+starts-rise (suc (suc zero)) h = omega arith
+starts-rise (suc (suc (suc zero))) h = omega arith
+starts-rise (suc (suc (suc (suc zero)))) h = omega arith
+starts-rise (suc (suc (suc (suc (suc zero))))) h = omega arith
+starts-rise (suc (suc (suc (suc (suc (suc zero)))))) h = omega arith
+starts-rise (suc (suc (suc (suc (suc (suc (suc zero))))))) h = omega arith
+starts-rise (suc (suc (suc (suc (suc (suc (suc (suc k)))))))) h = absurd (omega arith)
+
+-- a list more that ends before the next begins
+pub fit-more : (l : List ℕ) (k v : ℕ) → k < length l → LengthsFit k l → startOf k + v ≤ startOf (k + 1) → LengthsFit (k + 1) (set l k v)
+fit-more l k v h f g i b =
+    dite (decLe k i)
+    (λ (a : k ≤ i). let e : i ≡ k = omega arith in rw (e, getD-set-same l k v 0 h) g)
+    (λ (a : ¬ (k ≤ i)). rw (getD-set-other l k i v 0 (λ d. absurd (omega arith))) (f i (omega arith)))
 
 -- a list's length more
 pub stated-more : (n : List ℤ) (l : List ℕ) (k v : ℕ) → k < length l → LengthsStated k n l → (Inside (pos 0) (pos 9223372036854775807) (at n (k + 1)) → v ≡ natAbs (at n (k + 1))) → LengthsStated (k + 1) n (set l k v)

@@ -2,7 +2,7 @@
 use mathlib.Core.Bool.{Bool, true, false, cond, _&&_}
 use mathlib.Core.List.{List}
 use mathlib.Core.Path.{_≡_}
-use Prim.Native.Nat.{ℕ, _+_, _%_, _^_, _<_, min}
+use Prim.Native.Nat.{ℕ, _+_, _%_, _^_, _≤_, _<_, min}
 use lib.Dec.{eqb}
 use lib.IntN.{ℤ, pos, natAbs}
 use lib.ListN.{length, take, getD}
@@ -14,7 +14,7 @@ use Rattle.lines.specs.Line.{line, allRead, putIn, countedUp}
 use Rattle.kept_cases.specs.KeptCase.{CaseAgrees}
 use Rattle.replay_loads.specs.declared.book.Book.{Book}
 use Rattle.replay_loads.specs.Words.{Numbered}
-use Rattle.replay_loads.specs.Lists.{cleared, Lies, linePut}
+use Rattle.replay_loads.specs.Lists.{startOf, cleared, Lies, linePut}
 
 -- the numbers n put at the front of a list, as many as fit
 abbrev pub copied : List ℤ → List ℤ → List ℤ
@@ -101,9 +101,13 @@ pub data Checked (b : Book) (n setup call cells want left : List ℤ) (before af
 abbrev pub LengthsStated : ℕ → List ℤ → List ℕ → Type 0
 LengthsStated k n lengths = (i : ℕ) → i < k → Inside (pos 0) (pos 9223372036854775807) (at n (i + 1)) → getD lengths i 0 ≡ natAbs (at n (i + 1))
 
--- what a `case` line leaves of the book, where no call waits for its check: a new one, with the lengths that it states; or the run ends, not as one that has taken all
+-- each of the first k lists ends before the next begins
+abbrev pub LengthsFit : ℕ → List ℕ → Type 0
+LengthsFit k lengths = (i : ℕ) → i < k → startOf i + getD lengths i 0 ≤ startOf (i + 1)
+
+-- what a `case` line leaves of the book, where no call waits for its check: a new one, with the lengths that it states, for which there is room; or the run ends, not as one that has taken all
 pub data CaseLeaves (b : Book) (n : List ℤ) (r : Book) : Type 0 where
-  opens : isFree b ≡ true → length n ≡ 9 → r .ended ≡ 0 → r .setup ≡ 0 → r .call ≡ 0 → LengthsStated 8 n (r .lengths) → CaseLeaves b n r
+  opens : isFree b ≡ true → length n ≡ 9 → r .ended ≡ 0 → r .setup ≡ 0 → r .call ≡ 0 → LengthsStated 8 n (r .lengths) → LengthsFit 8 (r .lengths) → CaseLeaves b n r
   opensNone : {why : ℕ} → allTaken < why → r ≡ ended why b → CaseLeaves b n r
 
 -- elements were named as changed, d since the call

@@ -1,6 +1,6 @@
 // The lists of a case in one list of numbers (load_cases has the places where they begin).
 ghost use mathlib.Core.Path.{_≡_};
-ghost use Prim.Native.Nat.{_-_, _≤_, _<_};
+ghost use Prim.Native.Nat.{_+_, _-_, _≤_, _<_};
 ghost use lib.ListN.{length};
 ghost use Rattle.cases.specs.Verdicts.{WhenTrue};
 ghost use Rattle.replay_loads.specs.Calls.{copied};
@@ -24,7 +24,9 @@ fn start_of(list: usize) -> usize
 }
 
 // The room for a list's elements.
-pub fn room_of(list: usize) -> usize {
+pub fn room_of(list: usize) -> usize
+    ensures { λ r. ⌜ (list ≤ 7 → startOf list + r ≡ startOf (list + 1)) ⌝ }
+{
     if 7 < list {
         return 0;
     }

@@ -15,6 +15,7 @@
 // Lists 0 to 6 are the store's seven, 7 the planes. Ends at the first load or pass that differs, or at
 // a line that cannot stand where it is.
 ghost use mathlib.Core.Path.{_≡_};
+ghost use lib.ListN.{length};
 ghost use Rattle.replay_loads.specs.Words.{Numbered};
 ghost use Rattle.replay_loads.specs.Lists.{cleared};
 ghost use Rattle.replay_loads.specs.Calls.{kindOf, left, tallied, CaseLeaves, SetLeaves, ChangeLeaves, Checked, Acted, Taken};
@@ -189,6 +190,7 @@ fn take_line(
     cells: &mut [i64],
     want: &mut [i64],
 ) -> Book
+    requires { ⌜ (length (now setup) ≡ 171) × (length (now call) ≡ 14) × (length (now cells) ≡ 95768) × (length (now want) ≡ 95768) ⌝ }
     ensures { λ r. ⌜ Taken b s (now (word .entry)) (now (numbers .entry)) (now (setup .entry)) (now (call .entry)) (now (cells .entry)) (now (want .entry)) (now (setup .exit)) (now (call .exit)) (now (cells .exit)) (now (want .exit)) (now (tallies .entry)) (now (tallies .exit)) r ⌝ }
 {
     let letters = s.letters;

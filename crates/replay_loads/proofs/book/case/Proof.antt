@@ -9,13 +9,13 @@ use borrow.Author.Needs.{sfits-of, needs}
 use borrow.Author.Tests.{eq-eqb}
 use Rattle.intops.proofs.Signed.{back}
 use Rattle.cases.specs.Numbers.{at}
-use Rattle.replay_loads.specs.Calls.{opens, opensNone, LengthsStated}
-use Rattle.replay_loads.proofs.Runs.{stated-more}
+use Rattle.replay_loads.specs.Calls.{opens, opensNone, LengthsStated, LengthsFit}
+use Rattle.replay_loads.proofs.Runs.{stated-more, fit-more}
 use Rattle.replay_loads.proofs.book.case.Statement.{statement}
 use Rattle.replay_loads.proofs.book.case.Tie as tie
 
 abbrev Inv-loop : tie.InvT-loop
-Inv-loop b n next₀ list₀ next list = (list ≤ 8) × (length (next .lengths) ≡ 8) × (next .ended ≡ 0) × (next .setup ≡ 0) × (next .call ≡ 0) × LengthsStated list n (next .lengths)
+Inv-loop b n next₀ list₀ next list = (list ≤ 8) × (length (next .lengths) ≡ 8) × (next .ended ≡ 0) × (next .setup ≡ 0) × (next .call ≡ 0) × LengthsStated list n (next .lengths) × LengthsFit list (next .lengths)
 
 abbrev μ-loop : tie.MeasureT-loop
 μ-loop b n next₀ list₀ next list = 8 - list
@@ -36,7 +36,7 @@ returns-2 : tie.Need-returns-2 Inv-loop μ-loop
 returns-2 c = opensNone {why = 3} (omega arith) (c .ended2 .ensures)
 
 loop-holds : tie.Need-loop-holds Inv-loop μ-loop
-loop-holds c = let e = c .before .before .before .start .ensures in (omega arith, e .3, e .0, e .1, e .2, λ i h j. absurd (omega arith))
+loop-holds c = let e = c .before .before .before .start .ensures in (omega arith, e .3, e .0, e .1, e .2, λ i h j. absurd (omega arith), λ i h. absurd (omega arith))
 
 add-to-usize : tie.Need-add-to-usize Inv-loop μ-loop
 add-to-usize c = search needs
@@ -76,13 +76,13 @@ loop-again c =
     let n = c .before .before .before .before .before .before .before .before .before .before .args .n .now in
     let l = c .before .before .before .before .before .loop in
     let f : SFits w64 (at n (l .list + 1)) = sfits-of (c .before .before .before .to-usize-arg .given) in
-    (omega (arith, c .before .before .before .before .loop-test .taken), simp length-set (l .inv .1), l .inv .2, l .inv .3, l .inv .4, stated-more n (l .next .lengths) (l .list) (c .before .before .to-usize .result) (omega (arith, c .before .before .before .before .loop-test .taken, l .inv .1)) (l .inv .5) (simp back at (c .before .before .to-usize .ensures)))
+    (omega (arith, c .before .before .before .before .loop-test .taken), simp length-set (l .inv .1), l .inv .2, l .inv .3, l .inv .4, stated-more n (l .next .lengths) (l .list) (c .before .before .to-usize .result) (omega (arith, c .before .before .before .before .loop-test .taken, l .inv .1)) (l .inv .5) (simp back at (c .before .before .to-usize .ensures)), fit-more (l .next .lengths) (l .list) (c .before .before .to-usize .result) (omega (arith, c .before .before .before .before .loop-test .taken, l .inv .1)) (l .inv .6) (omega (arith, c .before .room-of .ensures (omega (arith, c .before .before .before .before .loop-test .taken)), c .if3 .left)))
 
 returns-4 : tie.Need-returns-4 Inv-loop μ-loop
 returns-4 c =
     let l = c .before .loop in
     let e : l .list ≡ 8 = omega (arith, c .loop-test .left, l .inv .0) in
-    opens (eq-eqb _ 0 (c .before .before .before .if1 .left)) (c .before .before .if2 .left) (l .inv .2) (l .inv .3) (l .inv .4) (λ i h j. l .inv .5 i (omega (arith, h, e)) j)
+    opens (eq-eqb _ 0 (c .before .before .before .if1 .left)) (c .before .before .if2 .left) (l .inv .2) (l .inv .3) (l .inv .4) (λ i h j. l .inv .5 i (omega (arith, h, e)) j) (λ i h. l .inv .6 i (omega (arith, h, e)))
 
 pub case-spec : {M : Type 1} → statement M
 case-spec =
