@@ -103,6 +103,27 @@ span f a b s = s
     }
 
     #[test]
+    fn texts_are_lists_of_numbers() {
+        let ascii = "use Prim.Native.Char.{code}
+use Prim.Native.String.{String, charAt, len}
+from : String → ℕ → ℕ → List ℕ
+from word zero i = []
+from word (suc n) i = code (charAt word i) ∷ from word n (i + 1)
+ascii : String → List ℕ
+ascii word = from word (len word) 0
+";
+        let at = |k: u32| {
+            it(&format!(
+                "{ascii}it : ℕ\nit = getD (ascii \"a (b)\\n\" ++ ascii \" -- c\") {k} 0"
+            ))
+        };
+        assert_eq!(
+            (0..11).map(at).collect::<Vec<_>>(),
+            [97, 32, 40, 98, 41, 10, 32, 45, 45, 32, 99]
+        );
+    }
+
+    #[test]
     fn sections_give_their_parameters_inside() {
         let text = "module _ (g : ℕ) {A : Type 0} (h : ℕ → ℕ) where
   -- a sibling takes them by itself

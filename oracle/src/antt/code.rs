@@ -235,6 +235,7 @@ impl Maker {
         match ir {
             Ir::Var(var) => Expr::Local(frame.places[var]),
             Ir::Int(n) => Expr::Const(Value::Int(*n)),
+            Ir::Text(codes) => Expr::Const(Value::ints(codes.clone())),
             Ir::Bool(b) => Expr::Const(Value::Bool(*b)),
             Ir::Nil => Expr::Const(Value::list(Vec::new())),
             Ir::Bad(text) => Expr::Bad(text.clone()),

@@ -272,7 +272,7 @@ fn plain(patterns: &[IrPattern]) -> Option<Vec<VarId>> {
 
 fn atomic(ir: &Ir) -> bool {
     match ir {
-        Ir::Var(_) | Ir::Int(_) | Ir::Bool(_) | Ir::Nil | Ir::Global(_) => true,
+        Ir::Var(_) | Ir::Int(_) | Ir::Text(_) | Ir::Bool(_) | Ir::Nil | Ir::Global(_) => true,
         Ir::Con(_, parts) => parts.is_empty(),
         _ => false,
     }

@@ -53,6 +53,9 @@ impl Line {
                 *comment = true;
             } else if self.starts("--") {
                 return;
+            } else if c == '"' {
+                self.push(self.at, self.quoted_end(), spaced, all);
+                spaced = false;
             } else if BRACKETS.contains(c) {
                 self.push(self.at, self.at + 1, spaced, all);
                 spaced = false;
@@ -66,6 +69,15 @@ impl Line {
     fn starts(&self, text: &str) -> bool {
         let mut chars = self.chars[self.at..].iter();
         text.chars().all(|c| chars.next() == Some(&c))
+    }
+
+    /// Behind the quote that ends the text that begins here, or the line's end.
+    fn quoted_end(&self) -> usize {
+        let mut at = self.at + 1;
+        while at < self.chars.len() && self.chars[at] != '"' {
+            at += 1 + usize::from(self.chars[at] == '\\');
+        }
+        (at + 1).min(self.chars.len())
     }
 
     /// Up to a space or bracket. `a.b` is `a` and a tight `.b`; the dot behind a binder stands alone.

@@ -535,10 +535,11 @@ impl Machine {
             Native::Length => Value::Int(next().items_len() as i64),
             Native::GetD => {
                 let (list, at, other) = (next(), next().int(), next());
-                let Value::List(start, list) = list else {
-                    panic!("a list is expected")
-                };
-                list.get(start as usize + at as usize).unwrap_or(other)
+                get(list, at, other)
+            }
+            Native::CharAt => {
+                let (text, at) = (next(), next().int());
+                get(text, at, Value::Int(0))
             }
             Native::Take => {
                 let count = next().int() as usize;
@@ -819,6 +820,14 @@ fn place_of(program: &Program, field: &Field, value: &Value) -> usize {
     };
     field.known.set((shape, place as u16));
     place
+}
+
+/// The element at a place, or the other where there is none.
+fn get(list: Value, at: i64, other: Value) -> Value {
+    let Value::List(start, list) = list else {
+        panic!("a list is expected")
+    };
+    list.get(start as usize + at as usize).unwrap_or(other)
 }
 
 /// The list with another element; past its end nothing changes.

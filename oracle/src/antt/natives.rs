@@ -50,6 +50,8 @@ pub enum Native {
     Set,
     Replicate,
     Map,
+    // texts: the lists of their characters' numbers
+    CharAt,
     // of this repository
     Over,
     Span,
@@ -104,6 +106,9 @@ pub const LIBRARY: &[(&str, Native, usize)] = &[
     ("lib.ListN.drop", Native::Drop, 2),
     ("lib.ListN.set", Native::Set, 3),
     ("lib.ListN.replicate", Native::Replicate, 2),
+    ("Prim.Native.Char.code", Native::Pos, 1),
+    ("Prim.Native.String.len", Native::Length, 1),
+    ("Prim.Native.String.charAt", Native::CharAt, 2),
 ];
 
 /// Definitions of this repository that are carried out by the interpreter and not from their clauses.

@@ -215,6 +215,25 @@ fn join(mut parts: Vec<Pattern>) -> Read<Pattern> {
     }
 }
 
+/// The characters' numbers of a quoted text; of the escapes those that the definitions use.
+fn quoted(text: &str) -> Read<Vec<i64>> {
+    let inner = text[1..].strip_suffix('"').ok_or("a text does not end")?;
+    let mut codes = Vec::new();
+    let mut chars = inner.chars();
+    while let Some(c) = chars.next() {
+        let meant = match (c, c == '\\') {
+            (_, true) => match chars.next() {
+                Some('n') => '\n',
+                Some(same @ ('"' | '\\')) => same,
+                other => return Err(format!("the escape {other:?} is not understood")),
+            },
+            (plain, false) => plain,
+        };
+        codes.push(i64::from(u32::from(meant)));
+    }
+    Ok(codes)
+}
+
 fn number(text: &str) -> Option<i64> {
     if !text.starts_with(|c: char| c.is_ascii_digit()) {
         return None;
@@ -364,6 +383,7 @@ impl<'a> Reader<'a> {
             "record" => self.record(),
             _ if STOPS.contains(&text) => Err(format!("a term is expected, not {text}")),
             "elim" | "unfold" | "open" => Err(format!("{text} is not understood")),
+            _ if text.starts_with('"') => quoted(text).map(Term::Text),
             _ => Ok(number(text).map_or_else(|| Term::Name(text.to_string()), Term::Number)),
         }
     }

@@ -15,6 +15,7 @@ pub type FnId = u32;
 pub enum Ir {
     Var(VarId),
     Int(i64),
+    Text(Vec<i64>),
     Bool(bool),
     Nil,
     Global(FnId),
@@ -517,6 +518,7 @@ impl Inside<'_> {
         match term {
             Term::Name(name) => self.name(name),
             Term::Number(n) => Ir::Int(*n),
+            Term::Text(codes) => Ir::Text(codes.clone()),
             Term::App(head, arguments) => {
                 let head = self.term(head);
                 let arguments = arguments.iter().map(|a| self.term(a)).collect();

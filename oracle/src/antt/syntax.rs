@@ -4,6 +4,8 @@
 pub enum Term {
     Name(String),
     Number(i64),
+    /// A quoted text: its characters' numbers.
+    Text(Vec<i64>),
     /// With explicit arguments only.
     App(Box<Term>, Vec<Term>),
     Field(Box<Term>, String),
