@@ -7,7 +7,7 @@ use lib.Signed.{ltZ}
 use borrow.Author.Tests.{not-false}
 use Rattle.intops.proofs.Signed.{signed, ud}
 use Rattle.intops.specs.Choice.{pickZ, clipZ}
-use Rattle.cases.specs.Numbers.{Inside}
+use Rattle.cases.specs.Numbers.{Inside, IsSize}
 use Rattle.cases.specs.Verdicts.{WhenTrue, WhenAgrees}
 use Rattle.cases.specs.declared.Verdict.{Verdict}
 use Rattle.cases.specs.declared.Verdict.the-variants.{Agrees, Differs, NotACase}
@@ -46,7 +46,7 @@ pub clip-inside : {low high z : ℤ} → Inside low high z → clipZ low high z 
 clip-inside {low} {high} {z} h = clip-go low high z (ltZ z low) (ltZ high z) refl refl h
 
 -- a number from 0 up to h has room in a usize, and its magnitude is at most h
-pub roomy : {h : ℕ} {z : ℤ} → h ≤ 9223372036854775807 → Inside (pos 0) (pos h) z → Inside (pos 0) (pos 9223372036854775807) z
+pub roomy : {h : ℕ} {z : ℤ} → h ≤ 9223372036854775807 → Inside (pos 0) (pos h) z → IsSize z
 roomy {h} {z} l i = record { least = i .least; most = omega (signed, i .most, l) }
 
 pub size : {h : ℕ} {z : ℤ} → Inside (pos 0) (pos h) z → natAbs z ≤ h

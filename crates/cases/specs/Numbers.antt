@@ -28,12 +28,29 @@ pub record Inside (low high z : ℤ) : Type 0 where
 abbrev pub Is32 : ℤ → Type 0
 Is32 z = Inside (negsuc 2147483647) (pos 2147483647) z
 
+-- z is a size: not negative; a line's numbers have 64 bits, signed
+abbrev pub IsSize : ℤ → Type 0
+IsSize z = Inside (pos 0) (pos 9223372036854775807) z
+
 -- the numbers from a up to b are within low and high
 abbrev pub AllInside : ℤ → ℤ → ℕ → ℕ → List ℤ → Type 0
 AllInside low high a b n = (k : ℕ) → k < b → a ≤ k → Inside low high (at n k)
 
+-- they are bytes
 abbrev pub Bytes : ℕ → ℕ → List ℤ → Type 0
 Bytes a b n = AllInside (pos 0) (pos 255) a b n
+
+-- they are signed bytes
+abbrev pub SignedBytes : ℕ → ℕ → List ℤ → Type 0
+SignedBytes a b n = AllInside (negsuc 127) (pos 127) a b n
+
+-- they are signed numbers of 32 bits
+abbrev pub Signed32s : ℕ → ℕ → List ℤ → Type 0
+Signed32s a b n = AllInside (negsuc 2147483647) (pos 2147483647) a b n
+
+-- they are sizes
+abbrev pub Sizes : ℕ → ℕ → List ℤ → Type 0
+Sizes a b n = AllInside (pos 0) (pos 9223372036854775807) a b n
 
 -- a switch is on where its number is not 0
 unfoldable pub isOn : ℤ → Bool

@@ -4,7 +4,7 @@ ghost use mathlib.Core.Bool.{true};
 ghost use Prim.Native.Nat.{_≤_};
 ghost use lib.IntN.{pos, negsuc, natAbs};
 ghost use lib.ListN.{length};
-ghost use Rattle.cases.specs.Numbers.{Inside, Is32, AllInside, isOn};
+ghost use Rattle.cases.specs.Numbers.{Inside, Is32, AllInside, isOn, IsSize};
 ghost use Rattle.cases.specs.Verdicts.{WhenTrue, WhenAgrees};
 
 pub enum Verdict {
@@ -94,7 +94,7 @@ pub fn to_u8(v: i64) -> u8
 }
 
 pub fn to_usize(v: i64) -> usize
-    ensures { λ r. ⌜ (Inside (pos 0) (pos 9223372036854775807) v → r ≡ natAbs v) ⌝ }
+    ensures { λ r. ⌜ (IsSize v → r ≡ natAbs v) ⌝ }
 {
     if v < 0 { 0 } else { v as usize }
 }

@@ -17,7 +17,7 @@ use Rattle.frame.specs.declared.Header.{Header}
 use Rattle.frame.specs.declared.Sources.{Sources}
 use Rattle.frame.specs.declared.Frame.{Frame}
 use Rattle.frame.specs.Frame.{setupOf}
-use Rattle.cases.specs.Numbers.{at, hintAt, AllInside, Bytes, isOn}
+use Rattle.cases.specs.Numbers.{at, hintAt, AllInside, Bytes, SignedBytes, isOn}
 
 -- ---- the header
 
@@ -26,7 +26,7 @@ pub record HeaderFits (n : List ℤ) : Type 0 where
   pub words : AllInside (pos 0) (pos 4294967295) 0 4 n
   pub codes : Bytes 5 7 n
   pub mode : Bytes 9 10 n
-  pub pair : AllInside (negsuc 127) (pos 127) 10 12 n
+  pub pair : SignedBytes 10 12 n
   pub hints : Bytes 12 76 n
 
 -- seven hints from the number k on

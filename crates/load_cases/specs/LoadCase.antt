@@ -11,13 +11,13 @@ use Rattle.store.specs.Calls.{called}
 use Rattle.load.specs.Load.{Call}
 use Rattle.load.specs.Calls.{answer, load}
 use Rattle.checks.specs.Answer.{callOf}
-use Rattle.cases.specs.Numbers.{at, AllInside, isOn}
+use Rattle.cases.specs.Numbers.{at, Sizes, isOn}
 use Rattle.frame_cases.specs.FrameCase.{recordOf, Stated}
 use Rattle.load_cases.specs.declared.Asked.{Asked}
 
 -- columns and rows, of the numbers from k on, are no negative ones
 abbrev pub TileNumbers : List ℤ → ℕ → Type 0
-TileNumbers n k = AllInside (pos 0) (pos 9223372036854775807) (k + 3) (k + 7) n
+TileNumbers n k = Sizes (k + 3) (k + 7) n
 
 -- what the numbers from k on ask for: the mode, two switches, columns, rows
 unfoldable pub askedAt : List ℤ → ℕ → Asked

@@ -1,13 +1,13 @@
 -- The setup that the 171 numbers of a line give, fields and elements in the order of include/refmvs.h. Assumes nothing.
 use mathlib.Core.List.{List, [], _∷_}
 use Prim.Native.Nat.{ℕ, _+_, _*_, _<_}
-use lib.IntN.{ℤ, pos, negsuc, natAbs}
+use lib.IntN.{ℤ, pos, natAbs}
 use Rattle.loops.specs.Seven.{seven}
 use Rattle.entry.specs.declared.Source.{Source}
 use Rattle.frame.specs.declared.Tip.{Tip}
 use Rattle.frame.specs.declared.Sources.{Sources}
 use Rattle.frame.specs.declared.Frame.{Frame}
-use Rattle.cases.specs.Numbers.{at, AllInside, Bytes, isOn}
+use Rattle.cases.specs.Numbers.{at, AllInside, Bytes, SignedBytes, Signed32s, Sizes, isOn}
 use Rattle.frame_cases.specs.FrameCase.{switchesAt}
 
 -- ---- the setup
@@ -66,25 +66,13 @@ setupAt n =
 
 -- ---- numbers that lie in their fields, so that none is clipped
 
--- the numbers from a up to b are signed bytes
-abbrev pub SignedBytes : ℕ → ℕ → List ℤ → Type 0
-SignedBytes a b n = AllInside (negsuc 127) (pos 127) a b n
-
--- they are signed numbers of 32 bits, as factors are
-abbrev pub Factors : ℕ → ℕ → List ℤ → Type 0
-Factors a b n = AllInside (negsuc 2147483647) (pos 2147483647) a b n
-
--- they are no negative ones, as sizes are
-abbrev pub Sizes : ℕ → ℕ → List ℤ → Type 0
-Sizes a b n = AllInside (pos 0) (pos 9223372036854775807) a b n
-
 -- those of a source, from the number k on
 pub record SourceNumbers (n : List ℤ) (k : ℕ) : Type 0 where
   pub reference : Bytes k (k + 1) n
   pub tgt : SignedBytes (k + 1) (k + 2) n
   pub dir : Bytes (k + 2) (k + 3) n
   pub distances : SignedBytes (k + 3) (k + 18) n
-  pub factors : Factors (k + 18) (k + 32) n
+  pub factors : Signed32s (k + 18) (k + 32) n
 
 -- those of the sources
 pub record SourcesNumbers (n : List ℤ) : Type 0 where
@@ -95,7 +83,7 @@ pub record SourcesNumbers (n : List ℤ) : Type 0 where
 -- those of the frame's own pair
 pub record TipNumbers (n : List ℤ) : Type 0 where
   pub delta : SignedBytes 8 9 n
-  pub factors : Factors 9 11 n
+  pub factors : Signed32s 9 11 n
 
 -- all 171; a switch fits as it is
 pub record SetupNumbers (n : List ℤ) : Type 0 where

@@ -2,8 +2,8 @@
 ghost use mathlib.Core.Path.{_≡_};
 ghost use Prim.Native.Nat.{_+_, _≤_};
 ghost use lib.ListN.{length};
-ghost use Rattle.cases.specs.Numbers.{Bytes};
-ghost use Rattle.load_cases.specs.Setup.{bytesAt, signedAt, sourceAt, sourcesAt, tipAt, setupAt, SignedBytes, Factors, SourceNumbers, SourcesNumbers, TipNumbers, SetupNumbers};
+ghost use Rattle.cases.specs.Numbers.{Bytes, SignedBytes, Signed32s};
+ghost use Rattle.load_cases.specs.Setup.{bytesAt, signedAt, sourceAt, sourcesAt, tipAt, setupAt, SourceNumbers, SourcesNumbers, TipNumbers, SetupNumbers};
 use entry::Source;
 use frame::Frame;
 use frame::Sources;
@@ -36,7 +36,7 @@ fn i8s_at(n: &[i64], k: usize) -> [i8; 7]
 
 fn i32s_at(n: &[i64], k: usize) -> [i32; 7]
     requires { ⌜ k + 7 ≤ length (now n) ⌝ }
-    ensures { λ r. ⌜ (Factors k (k + 7) (now (n .entry)) → r ≡ signedAt (now (n .entry)) k) ⌝ }
+    ensures { λ r. ⌜ (Signed32s k (k + 7) (now (n .entry)) → r ≡ signedAt (now (n .entry)) k) ⌝ }
 {
     let mut out = [0; 7];
     for i in 0..7 {

@@ -11,7 +11,7 @@ use borrow.Author.Tests.{eqb-true, eqb-false, ne-eqb}
 use Rattle.intops.specs.Choice.{eqZ}
 use Rattle.cases.specs.declared.Verdict.{Verdict}
 use Rattle.cases.specs.declared.Verdict.the-variants.{Agrees, Differs, NotACase}
-use Rattle.cases.specs.Numbers.{at, isOn, Inside}
+use Rattle.cases.specs.Numbers.{at, isOn, IsSize}
 use Rattle.cases.specs.Verdicts.{WhenTrue, WhenAgrees}
 use Rattle.cases.proofs.Verdicts.{roomy}
 use Rattle.kept_cases.specs.KeptCase.{CaseAgrees}
@@ -59,13 +59,13 @@ module _ (k : ℕ) (n : List ℤ) (z : k ≡ 14 → ⊥) where
 
 -- ---- a `check` line
 
-may-go : (b : Book) (n : List ℤ) {u : ℕ} (x y z : Bool) → eqb (b .call) 0 ≡ x → eqb (b .setup) 0 ≡ y → eqb (b .changed) u ≡ z → length n ≡ 1 → (Inside (pos 0) (pos 9223372036854775807) (at n 0) → u ≡ natAbs (at n 0)) → WhenTrue ((not x && not y) && z) (MayCheck b n)
+may-go : (b : Book) (n : List ℤ) {u : ℕ} (x y z : Bool) → eqb (b .call) 0 ≡ x → eqb (b .setup) 0 ≡ y → eqb (b .changed) u ≡ z → length n ≡ 1 → (IsSize (at n 0) → u ≡ natAbs (at n 0)) → WhenTrue ((not x && not y) && z) (MayCheck b n)
 may-go b n true y z e f g l h = tt
 may-go b n false true z e f g l h = tt
 may-go b n false false false e f g l h = tt
 may-go b n {u} false false true e f g l h = record { one = l; called = eqb-false _ _ e; isSetUp = eqb-false _ _ f; allNamed = λ i. eqb-true (b .changed) u g ∙ h i }
 
-pub may : (b : Book) (n : List ℤ) {u : ℕ} → length n ≡ 1 → (Inside (pos 0) (pos 9223372036854775807) (at n 0) → u ≡ natAbs (at n 0)) → WhenTrue ((not (eqb (b .call) 0) && not (eqb (b .setup) 0)) && eqb (b .changed) u) (MayCheck b n)
+pub may : (b : Book) (n : List ℤ) {u : ℕ} → length n ≡ 1 → (IsSize (at n 0) → u ≡ natAbs (at n 0)) → WhenTrue ((not (eqb (b .call) 0) && not (eqb (b .setup) 0)) && eqb (b .changed) u) (MayCheck b n)
 may b n {u} l h = may-go b n (eqb (b .call) 0) (eqb (b .setup) 0) (eqb (b .changed) u) refl refl refl l h
 
 pub checked-as : {b r : Book} {n setup call cells want l : List ℤ} {t after : List ℕ} (v : Verdict) → MayCheck b n → WhenAgrees v (CaseAgrees (b .lengths) cells want setup (take (b .call) call)) → l ≡ copied want cells → (r ≡ left v b) × (after ≡ tallied v (kindOf (b .call) call) t) → Checked b n setup call cells want l t after r

@@ -7,13 +7,12 @@ use native.Mathlib.Omega.{arith}
 use lib.Dec.{ltb}
 use mathlib.Core.Logic.{dite}
 use native.Mathlib.Decide.{decLe}
-use lib.IntN.{ℤ, pos, natAbs}
-use lib.ListN.{length, set, take, drop, length-drop}
+use lib.IntN.{ℤ}
+use lib.ListN.{length, getD, set, take, drop, length-drop}
 use lib.Seq.{take-length, getD-set-same, getD-set-other}
 use borrow.Author.Tests.{ltb-true, ltb-false}
-use Rattle.cases.specs.Numbers.{at, Inside}
+use Rattle.cases.specs.Numbers.{at}
 use Rattle.replay_loads.specs.Lists.{startOf, againAt, runPut}
-use Rattle.replay_loads.specs.Calls.{LengthsStated, LengthsFit}
 
 again-go : (t : Bool) (k n : ℕ) → ltb k n ≡ t → 0 < n → cond t k 0 < n
 again-go true k n e h = ltb-true k n e
@@ -68,16 +67,9 @@ starts-rise (suc (suc (suc (suc (suc (suc zero)))))) h = omega arith
 starts-rise (suc (suc (suc (suc (suc (suc (suc zero))))))) h = omega arith
 starts-rise (suc (suc (suc (suc (suc (suc (suc (suc k)))))))) h = absurd (omega arith)
 
--- a list more that ends before the next begins
-pub fit-more : (l : List ℕ) (k v : ℕ) → k < length l → LengthsFit k l → startOf k + v ≤ startOf (k + 1) → LengthsFit (k + 1) (set l k v)
-fit-more l k v h f g i b =
+-- what holds of the first k elements, holds of one more that is set
+pub each-more : (P : ℕ → ℕ → Type 0) (l : List ℕ) (k v : ℕ) → k < length l → ((i : ℕ) → i < k → P i (getD l i 0)) → P k v → (i : ℕ) → i < k + 1 → P i (getD (set l k v) i 0)
+each-more P l k v h f g i b =
     dite (decLe k i)
     (λ (a : k ≤ i). let e : i ≡ k = omega arith in rw (e, getD-set-same l k v 0 h) g)
     (λ (a : ¬ (k ≤ i)). rw (getD-set-other l k i v 0 (λ d. absurd (omega arith))) (f i (omega arith)))
-
--- a list's length more
-pub stated-more : (n : List ℤ) (l : List ℕ) (k v : ℕ) → k < length l → LengthsStated k n l → (Inside (pos 0) (pos 9223372036854775807) (at n (k + 1)) → v ≡ natAbs (at n (k + 1))) → LengthsStated (k + 1) n (set l k v)
-stated-more n l k v h f g i b j =
-    dite (decLe k i)
-    (λ (a : k ≤ i). let e : i ≡ k = omega arith in rw e (getD-set-same l k v 0 h ∙ g (rw e at j)))
-    (λ (a : ¬ (k ≤ i)). getD-set-other l k i v 0 (λ d. absurd (omega arith)) ∙ f i (omega arith) j)

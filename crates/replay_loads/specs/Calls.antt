@@ -8,7 +8,7 @@ use lib.IntN.{ℤ, pos, natAbs}
 use lib.ListN.{length, take, getD}
 use Rattle.cases.specs.declared.Verdict.{Verdict}
 use Rattle.cases.specs.declared.Verdict.the-variants.{Agrees, Differs, NotACase}
-use Rattle.cases.specs.Numbers.{at, isOn, Inside}
+use Rattle.cases.specs.Numbers.{at, isOn, IsSize}
 use Rattle.lines.specs.declared.State.{State}
 use Rattle.lines.specs.Line.{line, allRead, putIn, countedUp}
 use Rattle.kept_cases.specs.KeptCase.{CaseAgrees}
@@ -90,7 +90,7 @@ pub record MayCheck (b : Book) (n : List ℤ) : Type 0 where
   pub one : length n ≡ 1
   pub called : b .call ≡ 0 → ⊥
   pub isSetUp : b .setup ≡ 0 → ⊥
-  pub allNamed : Inside (pos 0) (pos 9223372036854775807) (at n 0) → b .changed ≡ natAbs (at n 0)
+  pub allNamed : IsSize (at n 0) → b .changed ≡ natAbs (at n 0)
 
 -- what a `check` line leaves: the call has agreed and is counted, and the lists are the wanted ones; or the run ends, not as one that has taken all, and nothing is counted
 pub data Checked (b : Book) (n setup call cells want left : List ℤ) (before after : List ℕ) (r : Book) : Type 0 where
@@ -99,7 +99,7 @@ pub data Checked (b : Book) (n setup call cells want left : List ℤ) (before af
 
 -- the first k lists have the lengths that a `case` line states
 abbrev pub LengthsStated : ℕ → List ℤ → List ℕ → Type 0
-LengthsStated k n lengths = (i : ℕ) → i < k → Inside (pos 0) (pos 9223372036854775807) (at n (i + 1)) → getD lengths i 0 ≡ natAbs (at n (i + 1))
+LengthsStated k n lengths = (i : ℕ) → i < k → IsSize (at n (i + 1)) → getD lengths i 0 ≡ natAbs (at n (i + 1))
 
 -- each of the first k lists ends before the next begins
 abbrev pub LengthsFit : ℕ → List ℕ → Type 0
@@ -121,7 +121,7 @@ pub data SetLeaves (b : Book) (n cells want left want2 : List ℤ) (r : Book) : 
 
 -- what a `changed` line of the numbers n leaves of the book, if its values were put or not: after a call, so many elements more were named, in 64 bits
 pub data NamedLeaves (b : Book) (n : List ℤ) (isSet : Bool) (r : Book) : Type 0 where
-  names : {d : ℕ} → isSet ≡ true → isFree b ≡ false → (Inside (pos 0) (pos 9223372036854775807) (at n 2) → d ≡ (b .changed + natAbs (at n 2)) % 2 ^ 64) → r ≡ named d b → NamedLeaves b n isSet r
+  names : {d : ℕ} → isSet ≡ true → isFree b ≡ false → (IsSize (at n 2) → d ≡ (b .changed + natAbs (at n 2)) % 2 ^ 64) → r ≡ named d b → NamedLeaves b n isSet r
   namesNone : r ≡ ended notALine b → NamedLeaves b n isSet r
 
 -- and of the wanted lists: they have its values; or the run ends

@@ -23,7 +23,7 @@ setupLine BadStep = line (ascii "the setup is refused, 6: step not 1 or 2")
 setupLine BadSize = line (ascii "the setup is refused, 7: width or height not 1..65536")
 setupLine BadTipSlot = line (ascii "the setup is refused, 8: TIP slot not a slot in use")
 
--- "`load_tmvs` refuses a tile with number N, 10 or 12"; 9 and 11 come of no file, since the setup has passed and the buffers are long enough
+-- "`load_tmvs` refuses a tile with number N, 10 or 12"; the definition has lines for 9 and 11 too. By `SetupPasses` 9 comes of no file; that the buffers are always long enough, so that 11 comes of none, is no theorem
 abbrev pub loadLine : LoadAnswer → List ℕ
 loadLine Loaded = []
 loadLine SetupOutOfRange = line (ascii "the load is refused, 9: setup out of range")

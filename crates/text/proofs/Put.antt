@@ -23,6 +23,10 @@ put-within l a = record { front = a .front; room = omega (arith, a .room) }
 pub put-as : {before after s t : List ℕ} {at k r : ℕ} → s ≡ t → Put before at k s after r → Put before at k t after r
 put-as e a = rw e at a
 
+-- what stands at the front, handed over up to its end
+pub handed : {before after t : List ℕ} {most r n : ℕ} → n ≡ r → Put before 0 most t after r → take n after ≡ t
+handed e a = rw e (a .front)
+
 -- ---- one byte
 
 pub put-one : (out : List ℕ) (at b : ℕ) → at < length out → Put out at 1 (b ∷ []) (set out at b) (at + 1)

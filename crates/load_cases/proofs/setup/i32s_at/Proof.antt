@@ -9,13 +9,13 @@ use Rattle.loops.specs.Over.{span}
 use Rattle.loops.specs.Seven.{storing}
 use Rattle.loops.proofs.Seven.{stored, all-stored}
 use Rattle.intops.proofs.Signed.{back}
-use Rattle.cases.specs.Numbers.{at}
-use Rattle.load_cases.specs.Setup.{signedAt, Factors}
+use Rattle.cases.specs.Numbers.{at, Signed32s}
+use Rattle.load_cases.specs.Setup.{signedAt}
 use Rattle.load_cases.proofs.setup.i32s_at.Statement.{statement}
 use Rattle.load_cases.proofs.setup.i32s_at.Tie as tie
 
 abbrev Inv-loop : tie.InvT-loop
-Inv-loop n k out₀ i₀ out i = (i ≤ 7) × (Factors k (k + 7) n → span (storing (λ j. at n (k + j))) i 7 out ≡ span (storing (λ j. at n (k + j))) 0 7 out₀)
+Inv-loop n k out₀ i₀ out i = (i ≤ 7) × (Signed32s k (k + 7) n → span (storing (λ j. at n (k + j))) i 7 out ≡ span (storing (λ j. at n (k + j))) 0 7 out₀)
 
 abbrev μ-loop : tie.MeasureT-loop
 μ-loop n k out₀ i₀ out i = 7 - i

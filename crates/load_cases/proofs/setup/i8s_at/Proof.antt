@@ -9,8 +9,8 @@ use Rattle.loops.specs.Over.{span}
 use Rattle.loops.specs.Seven.{storing}
 use Rattle.loops.proofs.Seven.{stored, all-stored}
 use Rattle.intops.proofs.Signed.{back}
-use Rattle.cases.specs.Numbers.{at}
-use Rattle.load_cases.specs.Setup.{signedAt, SignedBytes}
+use Rattle.cases.specs.Numbers.{at, SignedBytes}
+use Rattle.load_cases.specs.Setup.{signedAt}
 use Rattle.load_cases.proofs.setup.i8s_at.Statement.{statement}
 use Rattle.load_cases.proofs.setup.i8s_at.Tie as tie
 

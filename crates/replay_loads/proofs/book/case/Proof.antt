@@ -1,16 +1,18 @@
 -- `replay_loads::book::case` meets its contract. The measure is how many lists are left. Assumes nothing.
 use mathlib.Core.Path.{_≡_}
-use Prim.Native.Nat.{_+_, _-_, _≤_}
+use Prim.Native.Nat.{_+_, _-_, _≤_, _<_}
 use native.Mathlib.Omega.{arith}
+use lib.IntN.{natAbs}
 use lib.ListN.{length, length-set}
 use mir.Syntax.{w64}
 use mir.Val.{SFits}
 use borrow.Author.Needs.{sfits-of, needs}
 use borrow.Author.Tests.{eq-eqb}
 use Rattle.intops.proofs.Signed.{back}
-use Rattle.cases.specs.Numbers.{at}
+use Rattle.cases.specs.Numbers.{at, IsSize}
+use Rattle.replay_loads.specs.Lists.{startOf}
 use Rattle.replay_loads.specs.Calls.{opens, opensNone, LengthsStated, LengthsFit}
-use Rattle.replay_loads.proofs.Runs.{stated-more, fit-more}
+use Rattle.replay_loads.proofs.Runs.{each-more}
 use Rattle.replay_loads.proofs.book.case.Statement.{statement}
 use Rattle.replay_loads.proofs.book.case.Tie as tie
 
@@ -76,7 +78,11 @@ loop-again c =
     let n = c .before .before .before .before .before .before .before .before .before .before .args .n .now in
     let l = c .before .before .before .before .before .loop in
     let f : SFits w64 (at n (l .list + 1)) = sfits-of (c .before .before .before .to-usize-arg .given) in
-    (omega (arith, c .before .before .before .before .loop-test .taken), simp length-set (l .inv .1), l .inv .2, l .inv .3, l .inv .4, stated-more n (l .next .lengths) (l .list) (c .before .before .to-usize .result) (omega (arith, c .before .before .before .before .loop-test .taken, l .inv .1)) (l .inv .5) (simp back at (c .before .before .to-usize .ensures)), fit-more (l .next .lengths) (l .list) (c .before .before .to-usize .result) (omega (arith, c .before .before .before .before .loop-test .taken, l .inv .1)) (l .inv .6) (omega (arith, c .before .room-of .ensures (omega (arith, c .before .before .before .before .loop-test .taken)), c .if3 .left)))
+    let test = c .before .before .before .before .loop-test .taken in
+    let short : l .list < length (l .next .lengths) = omega (arith, test, l .inv .1) in
+    let stated = each-more (λ i v. IsSize (at n (i + 1)) → v ≡ natAbs (at n (i + 1))) (l .next .lengths) (l .list) (c .before .before .to-usize .result) short (λ i h j. l .inv .5 i h j) (simp back at (c .before .before .to-usize .ensures)) in
+    let fit = each-more (λ i v. startOf i + v ≤ startOf (i + 1)) (l .next .lengths) (l .list) (c .before .before .to-usize .result) short (l .inv .6) (omega (arith, c .before .room-of .ensures (omega (arith, test)), c .if3 .left)) in
+    (omega (arith, test), simp length-set (l .inv .1), l .inv .2, l .inv .3, l .inv .4, λ i h j. stated i h j, fit)
 
 returns-4 : tie.Need-returns-4 Inv-loop μ-loop
 returns-4 c =

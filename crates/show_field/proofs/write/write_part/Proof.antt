@@ -2,6 +2,7 @@
 use mathlib.Core.Path.{refl}
 use native.Mathlib.Omega.{arith}
 use borrow.Author.Needs.{needs}
+use Rattle.text.proofs.Put.{handed}
 use Rattle.show_field.proofs.Parts.{few-parts}
 use Rattle.show_field.proofs.write.write_part.Statement.{statement}
 use Rattle.show_field.proofs.write.write_part.Tie as tie
@@ -19,7 +20,7 @@ same-length : tie.Need-same-length
 same-length c = search needs
 
 returns : tie.Need-returns
-returns c = (refl, rw (c .write-front .ensures) (c .before .before .before .before .put-part .ensures .front))
+returns c = (refl, handed (c .write-front .ensures) (c .before .before .before .before .put-part .ensures))
 
 pub write-part-spec : {M : Type 1} → statement M
 write-part-spec =
