@@ -1,13 +1,15 @@
 -- Laws of the reader. Assumes nothing.
+use mathlib.Core.Bool.{false}
 use mathlib.Core.List.{List}
-use mathlib.Core.Path.{_≡_}
+use mathlib.Core.Path.{_≡_, refl, subst}
 use Prim.Native.Nat.{ℕ, zero, suc, _+_, _-_, _<_, _≤_}
 use native.Mathlib.Omega.{arith}
+use lib.Dec.{T, eqb}
 use lib.IntN.{ℤ}
 use lib.ListN.{length, getD}
-use borrow.Author.Tests.{lt-ltb, le-ltb, eq-eqb, ne-eqb}
+use borrow.Author.Tests.{lt-ltb, le-ltb, eq-eqb, ne-eqb, eqb-true, not-false}
 use Rattle.lines.specs.declared.State.{State}
-use Rattle.lines.specs.Line.{nothing, allRead, newline, atStart, inWord, atNumber, inDigits, finds, bytes, refused, startStep, wordStep, numberStep, digitsStep, commentStep, Reader, withWord, withNumbers, withState, step, taken, unlessFound, stepsFrom, steps, endInput, given, ReadSome, Reads, never, found, then}
+use Rattle.lines.specs.Line.{nothing, allRead, newline, atStart, inWord, atNumber, inDigits, finds, bytes, refused, startStep, wordStep, numberStep, digitsStep, commentStep, Reader, withWord, withNumbers, withState, step, taken, unlessFound, stepsFrom, steps, endInput, given, ReadSome, Reads, never, found, then, isLast}
 
 -- ---- a byte, by what was to come next
 
@@ -68,26 +70,39 @@ module _ (r q : Reader) (s : q ≡ step newline r) where
 -- ---- a turn of reading
 
 module _ (input : List ℕ) (r q : Reader) (s : q ≡ steps input r) where
-  pub read-line : (q .state .found ≡ nothing → ⊥) → ReadSome input r q
-  read-line n = record { more = 0; fits = omega arith; is = rw (← s, ne-eqb _ _ n) }
+  pub read-line : (q .state .found ≡ nothing → ⊥) → ReadSome input r input q
+  read-line n = record { more = 0; fits = omega arith; is = rw (← s, ne-eqb _ _ n); same = λ h. refl }
 
-  pub read-more : (t : State) → q .state .found ≡ nothing → t ≡ bytes 0 (t .end) (q .state) → t .end ≤ length input → (t .end ≡ 0 → ⊥) → ReadSome input r (withState q t)
+  pub read-more : (t : State) {next : List ℕ} → q .state .found ≡ nothing → t ≡ bytes 0 (t .end) (q .state) → t .end ≤ length input → (t .end ≡ 0 → ⊥) → ReadSome input r next (withState q t)
   unfolding given
-  read-more t n f l z = record { more = t .end; fits = l; is = rw (← s, eq-eqb _ _ n, ne-eqb _ _ z, ← f) }
+  read-more t n f l z = record { more = t .end; fits = l; is = rw (← s, eq-eqb _ _ n, ne-eqb _ _ z, ← f); same = λ h. absurd (h (rw (← s) n)) }
 
-  pub read-end : (t : State) {z : Reader} → q .state .found ≡ nothing → t ≡ bytes 0 (t .end) (q .state) → t .end ≡ 0 → z ≡ endInput (withState q t) → ReadSome input r z
+  pub read-end : (t : State) {next : List ℕ} {z : Reader} → q .state .found ≡ nothing → t ≡ bytes 0 (t .end) (q .state) → t .end ≡ 0 → z ≡ endInput (withState q t) → ReadSome input r next z
   unfolding given
-  read-end t n f e y = record { more = t .end; fits = omega arith; is = rw (← s, eq-eqb _ _ n, eq-eqb _ _ e, ← f) y }
+  read-end t n f e y = record { more = t .end; fits = omega arith; is = rw (← s, eq-eqb _ _ n, eq-eqb _ _ e, ← f) y; same = λ h. absurd (h (rw (← s) n)) }
 
 -- ---- turns until something is found
 
-pub found-now : (n : ℕ) {input : List ℕ} {r q : Reader} → 0 < n → ReadSome input r q → (q .state .found ≡ nothing → ⊥) → Reads n input r q
+pub found-now : (n : ℕ) {input last : List ℕ} {r q : Reader} → 0 < n → ReadSome input r last q → (q .state .found ≡ nothing → ⊥) → Reads n input r last q
 found-now zero h s f = absurd (omega arith)
 found-now (suc n) h s f = found s f
 
-pub found-later : (n : ℕ) {input next : List ℕ} {r m q : Reader} → 0 < n → ReadSome input r m → m .state .found ≡ nothing → Reads (n - 1) next m q → Reads n input r q
+pub found-later : (n : ℕ) {input next last : List ℕ} {r m q : Reader} → 0 < n → ReadSome input r next m → m .state .found ≡ nothing → Reads (n - 1) next m last q → Reads n input r last q
 found-later zero h s f t = absurd (omega arith)
 found-later (suc n) h s f t = let e : suc n - 1 ≡ n = omega arith in then s f (rw e at t)
 
-pub found-never : (n : ℕ) {input : List ℕ} {r : Reader} → n ≤ 0 → Reads n input r r
+pub found-never : (n : ℕ) {input : List ℕ} {r : Reader} → n ≤ 0 → Reads n input r input r
 found-never n h = let e : n ≡ 0 = omega arith in rw e never
+
+-- ---- a turn of a run that is not the last: turns may follow, the next has one less behind it, and its line has not ended the run
+
+pub turns-left : (left ended : ℕ) → isLast left ended ≡ false → 1 ≤ left
+turns-left zero ended e = absurd (subst T e tt)
+turns-left (suc n) ended e = omega arith
+
+pub one-less : {next : ℕ} (left ended : ℕ) → isLast left ended ≡ false → next ≡ left - 1 → next + 1 ≡ left
+one-less left ended e h = let more = turns-left left ended e in omega (arith, more, h)
+
+pub still-runs : (left ended : ℕ) → isLast left ended ≡ false → ended ≡ 0
+still-runs zero ended e = absurd (subst T e tt)
+still-runs (suc n) ended e = eqb-true ended 0 (not-false (eqb ended 0) (rw (ne-eqb (suc n) 0 (λ z. omega arith)) at e))

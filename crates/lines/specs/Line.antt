@@ -7,7 +7,7 @@ use mathlib.Core.Path.{_≡_}
 use Prim.Native.Nat.{ℕ, zero, suc, _+_, _-_, _*_, _^_, _≤_, min}
 use lib.Dec.{leb, ltb, eqb}
 use lib.IntN.{ℤ, pos, negsuc, negℤ}
-use lib.ListN.{length, getD, set, take, drop}
+use lib.ListN.{length, getD, set, take, drop, replicate}
 use lib.Signed.{leZ}
 use Rattle.lines.specs.declared.State.{State}
 use Rattle.lines.specs.declared.Value.{Value}
@@ -233,18 +233,20 @@ endInput r = unlessFound (λ t. withState t (finds allRead (t .state))) (step ne
 unfoldable pub given : ℕ → Reader → Reader
 given e r = cond (eqb e 0) (endInput (withState r (bytes 0 e (r .state)))) (withState r (bytes 0 e (r .state)))
 
--- q is what the bytes that are left make of r; where they end no line, the input is asked for more
-pub record ReadSome (input : List ℕ) (r q : Reader) : Type 0 where
+-- q is what the bytes that are left in input make of r; where they end no line, the input is asked for more, which are then in next
+pub record ReadSome (input : List ℕ) (r : Reader) (next : List ℕ) (q : Reader) : Type 0 where
   -- how many bytes it gives
   pub more : ℕ
   pub fits : more ≤ length input
   pub is : q ≡ unlessFound (given more) (steps input r)
+  -- where something is found in those that are left, the buffer stays
+  pub same : (steps input r .state .found ≡ nothing → ⊥) → next ≡ input
 
--- from r on, in at most n turns, the reader comes to q: each turn has the bytes that the one before it asked for, and the last has found something
-pub data Reads : ℕ → List ℕ → Reader → Reader → Type 0 where
-  never : {input : List ℕ} {r : Reader} → Reads 0 input r r
-  found : {n : ℕ} {input : List ℕ} {r q : Reader} → ReadSome input r q → (q .state .found ≡ nothing → ⊥) → Reads (suc n) input r q
-  then : {n : ℕ} {input next : List ℕ} {r m q : Reader} → ReadSome input r m → m .state .found ≡ nothing → Reads n next m q → Reads (suc n) input r q
+-- from r and the bytes in input on, in at most n turns, the reader comes to q, with the bytes in last: each turn has the bytes that the one before it asked for, and the last has found something
+pub data Reads : ℕ → List ℕ → Reader → List ℕ → Reader → Type 0 where
+  never : {input : List ℕ} {r : Reader} → Reads 0 input r input r
+  found : {n : ℕ} {input last : List ℕ} {r q : Reader} → ReadSome input r last q → (q .state .found ≡ nothing → ⊥) → Reads (suc n) input r last q
+  then : {n : ℕ} {input next last : List ℕ} {r m q : Reader} → ReadSome input r next m → m .state .found ≡ nothing → Reads n next m last q → Reads (suc n) input r last q
 
 -- ---- what is written into lent buffers
 
@@ -255,3 +257,13 @@ putIn r word out = take r word ++ drop r out
 -- one more in the tally of a kind; a kind that has none changes nothing
 abbrev pub countedUp : ℕ → List ℕ → List ℕ
 countedUp kind tallies = set tallies kind (oneMore (getD tallies kind 0))
+
+-- ---- a run, which takes line after line
+
+-- the 32 tallies before the first line: all 0
+abbrev pub noTallies : List ℕ
+noTallies = replicate 32 0
+
+-- is a turn the last? So many turns may follow it, and a number says how it has ended the run: 0 where it has not
+abbrev pub isLast : ℕ → ℕ → Bool
+isLast left ended = eqb left 0 || not (eqb ended 0)

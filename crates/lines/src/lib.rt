@@ -5,7 +5,7 @@ ghost use mathlib.Core.Path.{_≡_};
 ghost use Rattle.io.specs.Counts.{Counts};
 ghost use Prim.Native.Nat.{_-_, _^_, _≤_, min};
 ghost use lib.ListN.{length};
-ghost use Rattle.lines.specs.Line.{isLetter, isDigit, finds, bytes, oneMore, before, nextLine, pushLetter, startStep, wordStep, pushDigit, numberStep, valueOf, endNumber, endLine, digitsStep, commentStep, reader, step, steps, endInput, ReadSome, Reads, putIn};
+ghost use Rattle.lines.specs.Line.{isLetter, isDigit, finds, bytes, oneMore, before, nextLine, pushLetter, startStep, wordStep, pushDigit, numberStep, valueOf, endNumber, endLine, digitsStep, commentStep, reader, step, steps, endInput, ReadSome, Reads, putIn, isLast};
 use libc::STDIN_FILENO;
 
 pub mod report;
@@ -293,7 +293,7 @@ fn end_input(s: State, word: &mut [u8], numbers: &mut [i64]) -> State
 
 // What is left of the bytes, and where it has no end of a line the next ones.
 fn read_some(first: State, input: &mut [u8], word: &mut [u8], numbers: &mut [i64]) -> State
-    ensures { λ r. ⌜ ReadSome (now (input .entry)) (reader first (now (word .entry)) (now (numbers .entry))) (reader r (now (word .exit)) (now (numbers .exit))) ⌝ }
+    ensures { λ r. ⌜ ReadSome (now (input .entry)) (reader first (now (word .entry)) (now (numbers .entry))) (now (input .exit)) (reader r (now (word .exit)) (now (numbers .exit))) ⌝ }
 {
     let s = steps(first, input, word, numbers);
     if s.found != NOTHING {
@@ -309,7 +309,7 @@ fn read_some(first: State, input: &mut [u8], word: &mut [u8], numbers: &mut [i64
 // The line after s. A proved loop has to end, and nothing says that the input does: so it counts its
 // turns down from a number that no run uses up.
 pub fn next_line(s: State, input: &mut [u8], word: &mut [u8], numbers: &mut [i64]) -> State
-    ensures { λ r. ⌜ Reads (2 ^ 64 - 1) (now (input .entry)) (reader (nextLine s) (now (word .entry)) (now (numbers .entry))) (reader r (now (word .exit)) (now (numbers .exit))) ⌝ }
+    ensures { λ r. ⌜ Reads (2 ^ 64 - 1) (now (input .entry)) (reader (nextLine s) (now (word .entry)) (now (numbers .entry))) (now (input .exit)) (reader r (now (word .exit)) (now (numbers .exit))) ⌝ }
 {
     let mut next = line_after(s);
     let mut turns = u64::MAX;
@@ -337,4 +337,11 @@ pub fn put(word: &[u8], out: &mut [u8]) -> usize
         i += 1;
     }
     i
+}
+
+// Is a turn of a run the last? left: how many turns may follow; ended: how its line has ended the run, or 0.
+pub fn is_last(left: u64, ended: usize) -> bool
+    ensures { λ r. ⌜ r ≡ isLast left ended ⌝ }
+{
+    (left == 0) | (ended != 0)
 }
