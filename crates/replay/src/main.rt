@@ -17,9 +17,10 @@ ghost use Prim.Native.Nat.{_+_, _≤_};
 ghost use lib.Dec.{eqb};
 ghost use lib.ListN.{length, take};
 ghost use Rattle.text.specs.Put.{Put};
-ghost use Rattle.lines.specs.Line.{countedUp};
+ghost use Rattle.lines.specs.Line.{countedUp, noTallies};
 ghost use Rattle.replay.specs.Kinds.{Holds, Taken, running, ended, endOf};
 ghost use Rattle.replay.specs.Report.{endText, reportText};
+ghost use Rattle.replay.specs.Run.{kept, Turned, Ended};
 
 mod kinds;
 
@@ -90,6 +91,9 @@ fn put_end(ended: usize, sum: u64, line: u64, word: &[u8], out: &mut [u8], at: u
     if ended == NOT_A_CASE {
         return report::put_why(line, b"not a case", out, at);
     }
+    if ended == RUNNING {
+        return report::put_why(line, b"too many lines", out, at);
+    }
     report::put_differs(line, word, out, at)
 }
 
@@ -107,36 +111,63 @@ fn put_report(ended: usize, s: State, word: &[u8], tallies: &[u64], out: &mut [u
     put_end(ended, sum, s.line, &word[0..letters], out, last)
 }
 
-fn write_end(ended: usize, s: State, word: &[u8], tallies: &[u64], out: &mut [u8]) -> Written
-    requires { ⌜ (length (now word) ≤ 16) × (420 ≤ length (now out)) ⌝ }
-    ensures { λ r. ⌜ take (r .bytes) (now (out .exit)) ≡ reportText ended s (now (word .entry)) (now (tallies .entry)) ⌝ }
+// Writes the report on the end of a run, and on nothing else.
+fn write_end(last: Turn, word: &[u8], tallies: &[u64], out: &mut [u8]) -> Written
+    requires { ⌜ (length (now word) ≤ 16) × (420 ≤ length (now out)) × Ended last (now word) (now tallies) ⌝ }
+    ensures { λ r. ⌜ take (r .bytes) (now (out .exit)) ≡ reportText (last .ended) (last .state) (now (word .entry)) (now (tallies .entry)) ⌝ }
 {
-    let n = put_report(ended, s, word, tallies, out);
+    let n = put_report(last.ended, last.state, word, tallies, out);
     text::write_front(STDOUT_FILENO, out, n)
 }
 
-fn print_end(ended: usize, s: State, word: &[u8], tallies: &[u64])
-    requires { ⌜ (length (now word) ≤ 16) × (ended ≡ running → ⊥) ⌝ }
+fn print_end(last: Turn, word: &[u8], tallies: &[u64])
+    requires { ⌜ (length (now word) ≤ 16) × Ended last (now word) (now tallies) ⌝ }
 {
     let mut out = [0u8; 420];
-    write_end(ended, s, word, tallies, &mut out);
+    write_end(last, word, tallies, &mut out);
 }
 
-// Makes the buffers once, and lends them. The turns are those of lines::next_line.
+// A turn's receipt: how many turns may follow, what the reader found, and how it has ended the run.
+pub struct Turn {
+    pub left: u64,
+    pub state: State,
+    pub ended: usize,
+}
+
+// Reads the line after s and takes it.
+fn take_next(
+    left: u64,
+    s: State,
+    input: &mut [u8],
+    word: &mut [u8],
+    numbers: &mut [i64],
+    tallies: &mut [u64],
+) -> Turn
+    ensures { λ r. ⌜ (r .left ≡ left) × Turned s (kept (now (input .entry)) (now (word .entry)) (now (tallies .entry))) r (kept (now (input .exit)) (now (word .exit)) (now (tallies .exit))) ⌝ }
+{
+    let state = lines::next_line(s, input, word, numbers);
+    let ended = take_line(state, word, numbers, tallies);
+    Turn { left, state, ended }
+}
+
+// Takes line after line, until one ends the run. Turns are counted down, as in lines::next_line.
+fn take_all(input: &mut [u8], word: &mut [u8], numbers: &mut [i64], tallies: &mut [u64]) -> Turn
+    requires { ⌜ now tallies ≡ noTallies ⌝ }
+    ensures { λ r. ⌜ Ended r (now (word .exit)) (now (tallies .exit)) ⌝ }
+{
+    let mut turn = take_next(u64::MAX, lines::start(), input, word, numbers, tallies);
+    while !lines::is_last(turn.left, turn.ended) {
+        turn = take_next(turn.left - 1, turn.state, input, word, numbers, tallies);
+    }
+    turn
+}
+
+// Makes the buffers once, and lends them.
 fn main() {
     let mut input = io::large_buffer();
     let mut word = [0u8; 16];
     let mut numbers = [0i64; 1024];
     let mut tallies = [0u64; 32];
-    let mut s = lines::start();
-    let mut turns = u64::MAX;
-    while 0 < turns {
-        s = lines::next_line(s, &mut input, &mut word, &mut numbers);
-        let ended = take_line(s, &word, &numbers, &mut tallies);
-        if ended != RUNNING {
-            print_end(ended, s, &word, &tallies);
-            return;
-        }
-        turns -= 1;
-    }
+    let last = take_all(&mut input, &mut word, &mut numbers, &mut tallies);
+    print_end(last, &word, &tallies);
 }

@@ -5,7 +5,7 @@ use mathlib.Core.Path.{_≡_}
 use Prim.Native.Nat.{ℕ, _+_, _%_, _^_, _≤_, _<_, min}
 use lib.Dec.{eqb}
 use lib.IntN.{ℤ, pos, natAbs}
-use lib.ListN.{length, take, getD}
+use lib.ListN.{length, take, getD, replicate}
 use Rattle.cases.specs.declared.Verdict.{Verdict}
 use Rattle.cases.specs.declared.Verdict.the-variants.{Agrees, Differs, NotACase}
 use Rattle.cases.specs.Numbers.{at, isOn, IsSize}
@@ -21,6 +21,9 @@ abbrev pub copied : List ℤ → List ℤ → List ℤ
 copied n to = putIn (min (length n) (length to)) n to
 
 -- how the run has ended, if it has
+abbrev pub running : ℕ
+running = 0
+
 abbrev pub allTaken : ℕ
 allTaken = 1
 
@@ -37,6 +40,10 @@ noRoom = 4
 -- the book's fields in their order
 abbrev pub fields : ℕ → List ℕ → ℕ → ℕ → ℕ → ℕ → Book
 fields e l s c n d = record { ended = e; lengths = l; setup = s; call = c; line = n; changed = d }
+
+-- before the first line: no case, no setup, no call
+abbrev pub newBook : Book
+newBook = fields running (replicate 8 0) 0 0 0 0
 
 abbrev pub ended : ℕ → Book → Book
 ended why b = fields why (b .lengths) (b .setup) (b .call) (b .line) (b .changed)
@@ -107,7 +114,7 @@ LengthsFit k lengths = (i : ℕ) → i < k → startOf i + getD lengths i 0 ≤ 
 
 -- what a `case` line leaves of the book, where no call waits for its check: a new one, with the lengths that it states, for which there is room; or the run ends, not as one that has taken all
 pub data CaseLeaves (b : Book) (n : List ℤ) (r : Book) : Type 0 where
-  opens : isFree b ≡ true → length n ≡ 9 → r .ended ≡ 0 → r .setup ≡ 0 → r .call ≡ 0 → LengthsStated 8 n (r .lengths) → LengthsFit 8 (r .lengths) → CaseLeaves b n r
+  opens : isFree b ≡ true → length n ≡ 9 → r .ended ≡ running → r .setup ≡ 0 → r .call ≡ 0 → LengthsStated 8 n (r .lengths) → LengthsFit 8 (r .lengths) → CaseLeaves b n r
   opensNone : {why : ℕ} → allTaken < why → r ≡ ended why b → CaseLeaves b n r
 
 -- elements were named as changed, d since the call

@@ -7,7 +7,7 @@ use lib.ListN.{getD}
 use Rattle.text.specs.Ascii.{ascii}
 use Rattle.lines.specs.Report.{agreedText, differsText, whyText, allText}
 use Rattle.replay_loads.specs.declared.book.Book.{Book}
-use Rattle.replay_loads.specs.Calls.{allTaken, differs, noRoom}
+use Rattle.replay_loads.specs.Calls.{running, allTaken, differs, noRoom}
 
 -- how many of each kind agreed (`kindOf`)
 unfoldable pub talliesText : List ℕ → List ℕ
@@ -21,13 +21,14 @@ sumOf t = ((getD t 0 0 + getD t 1 0) % 2 ^ 64 + getD t 2 0) % 2 ^ 64
 unfoldable pub callText : ℕ → List ℕ
 callText k = cond (eqb k 14) (ascii "pass") (ascii "call")
 
--- the last line: all agree, or the call that differs, or the line of the input at which a list has no room, or that may not stand there
+-- the last line: all agree, or the call that differs, or the line of the input at which a list has no room, or the last that was taken, where no turn may follow, or the one that may not stand there
 unfoldable pub endText : Book → ℕ → ℕ → List ℕ
 endText b sum line =
     cond (eqb (b .ended) allTaken) (allText sum)
     (cond (eqb (b .ended) differs) (differsText (b .line) (callText (b .call)))
     (cond (eqb (b .ended) noRoom) (whyText line (ascii "no room for the lists of this case"))
-    (whyText line (ascii "not a line that may stand here"))))
+    (cond (eqb (b .ended) running) (whyText line (ascii "too many lines"))
+    (whyText line (ascii "not a line that may stand here")))))
 
 -- the whole report
 unfoldable pub reportText : Book → ℕ → List ℕ → List ℕ

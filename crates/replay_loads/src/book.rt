@@ -4,7 +4,7 @@ ghost use mathlib.Core.Path.{_≡_};
 ghost use lib.Dec.{eqb};
 ghost use lib.ListN.{length};
 ghost use Rattle.cases.specs.Verdicts.{WhenTrue};
-ghost use Rattle.replay_loads.specs.Calls.{allTaken, notALine, ended, checked, passed, isFree, copied, setupLeaves, callLeaves, CaseLeaves, NamedLeaves, MayCheck};
+ghost use Rattle.replay_loads.specs.Calls.{allTaken, notALine, newBook, ended, checked, passed, isFree, copied, setupLeaves, callLeaves, CaseLeaves, NamedLeaves, MayCheck};
 use crate::lists;
 
 // How the run has ended, if it has.
@@ -32,7 +32,7 @@ pub struct Book {
 }
 
 pub fn start() -> Book
-    ensures { λ r. ⌜ (r .ended ≡ 0) × (r .setup ≡ 0) × (r .call ≡ 0) × (length (r .lengths) ≡ 8) ⌝ }
+    ensures { λ r. ⌜ r ≡ newBook ⌝ }
 {
     let lengths = [0usize; 8];
     Book {

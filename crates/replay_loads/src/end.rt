@@ -5,6 +5,8 @@ ghost use lib.ListN.{length, take};
 ghost use Rattle.text.specs.Put.{Put};
 ghost use Rattle.lines.specs.Report.{differsText};
 ghost use Rattle.replay_loads.specs.Report.{talliesText, sumOf, callText, endText, reportText};
+ghost use Rattle.replay_loads.specs.Run.{Ended};
+use crate::Turn;
 use crate::book;
 use crate::book::Book;
 use libc::STDOUT_FILENO;
@@ -57,6 +59,9 @@ fn put_end(b: Book, sum: u64, line: u64, out: &mut [u8], at: usize) -> usize
     if b.ended == book::NO_ROOM {
         return report::put_why(line, b"no room for the lists of this case", out, at);
     }
+    if b.ended == book::RUNNING {
+        return report::put_why(line, b"too many lines", out, at);
+    }
     report::put_why(line, b"not a line that may stand here", out, at)
 }
 
@@ -69,17 +74,19 @@ fn put_report(b: Book, line: u64, tallies: &[u64], out: &mut [u8]) -> usize
     put_end(b, sum, line, out, last)
 }
 
-fn write_end(b: Book, line: u64, tallies: &[u64], out: &mut [u8]) -> Written
-    requires { ⌜ 176 ≤ length (now out) ⌝ }
-    ensures { λ r. ⌜ take (r .bytes) (now (out .exit)) ≡ reportText b line (now (tallies .entry)) ⌝ }
+// Writes the report on the end of a run, and on nothing else.
+fn write_end(last: Turn, tallies: &[u64], out: &mut [u8]) -> Written
+    requires { ⌜ (176 ≤ length (now out)) × Ended last (now tallies) ⌝ }
+    ensures { λ r. ⌜ take (r .bytes) (now (out .exit)) ≡ reportText (last .book) (last .state .line) (now (tallies .entry)) ⌝ }
 {
-    let n = put_report(b, line, tallies, out);
+    let s = last.state;
+    let n = put_report(last.book, s.line, tallies, out);
     text::write_front(STDOUT_FILENO, out, n)
 }
 
-pub fn print_end(b: Book, line: u64, tallies: &[u64])
-    requires { ⌜ (b .ended ≡ 0 → ⊥) ⌝ }
+pub fn print_end(last: Turn, tallies: &[u64])
+    requires { ⌜ Ended last (now tallies) ⌝ }
 {
     let mut out = [0u8; 176];
-    write_end(b, line, tallies, &mut out);
+    write_end(last, tallies, &mut out);
 }

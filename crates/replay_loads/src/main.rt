@@ -16,9 +16,11 @@
 // a line that cannot stand where it is.
 ghost use mathlib.Core.Path.{_≡_};
 ghost use lib.ListN.{length};
+ghost use Rattle.lines.specs.Line.{noTallies, isLast};
 ghost use Rattle.replay_loads.specs.Words.{Numbered};
 ghost use Rattle.replay_loads.specs.Lists.{cleared};
 ghost use Rattle.replay_loads.specs.Calls.{kindOf, left, tallied, CaseLeaves, SetLeaves, ChangeLeaves, Checked, Acted, Taken};
+ghost use Rattle.replay_loads.specs.Run.{kept, Turned, Ended};
 
 mod book;
 mod end;
@@ -221,7 +223,89 @@ fn take_line(
     )
 }
 
-// Makes the buffers and the lists once, and lends them. The turns are those of lines::next_line.
+// A turn's receipt: how many turns may follow, what the reader found, and what the lines have said so far.
+pub struct Turn {
+    pub left: u64,
+    pub state: State,
+    pub book: Book,
+}
+
+// Reads the line after s and takes it.
+fn take_next(
+    left: u64,
+    s: State,
+    b: Book,
+    input: &mut [u8],
+    word: &mut [u8],
+    numbers: &mut [i64],
+    setup: &mut [i64],
+    call: &mut [i64],
+    tallies: &mut [u64],
+    cells: &mut [i64],
+    want: &mut [i64],
+) -> Turn
+    requires { ⌜ (length (now setup) ≡ 171) × (length (now call) ≡ 14) × (length (now cells) ≡ 95768) × (length (now want) ≡ 95768) ⌝ }
+    ensures { λ r. ⌜ (r .left ≡ left) × Turned s b (kept (now (input .entry)) (now (word .entry)) (now (setup .entry)) (now (call .entry)) (now (cells .entry)) (now (want .entry)) (now (tallies .entry))) r (kept (now (input .exit)) (now (word .exit)) (now (setup .exit)) (now (call .exit)) (now (cells .exit)) (now (want .exit)) (now (tallies .exit))) ⌝ }
+{
+    let state = lines::next_line(s, input, word, numbers);
+    let book = take_line(b, state, word, numbers, setup, call, tallies, cells, want);
+    Turn { left, state, book }
+}
+
+// Is the turn the last?
+fn is_last(turn: Turn) -> bool
+    ensures { λ r. ⌜ r ≡ isLast (turn .left) (turn .book .ended) ⌝ }
+{
+    let b = turn.book;
+    lines::is_last(turn.left, b.ended)
+}
+
+// Takes line after line, until one ends the run. Turns are counted down, as in lines::next_line.
+fn take_all(
+    input: &mut [u8],
+    word: &mut [u8],
+    numbers: &mut [i64],
+    setup: &mut [i64],
+    call: &mut [i64],
+    tallies: &mut [u64],
+    cells: &mut [i64],
+    want: &mut [i64],
+) -> Turn
+    requires { ⌜ (length (now word) ≡ 16) × (length (now setup) ≡ 171) × (length (now call) ≡ 14) × (length (now cells) ≡ 95768) × (length (now want) ≡ 95768) × (now tallies ≡ noTallies) ⌝ }
+    ensures { λ r. ⌜ Ended r (now (tallies .exit)) ⌝ }
+{
+    let mut turn = take_next(
+        u64::MAX,
+        lines::start(),
+        book::start(),
+        input,
+        word,
+        numbers,
+        setup,
+        call,
+        tallies,
+        cells,
+        want,
+    );
+    while !is_last(turn) {
+        turn = take_next(
+            turn.left - 1,
+            turn.state,
+            turn.book,
+            input,
+            word,
+            numbers,
+            setup,
+            call,
+            tallies,
+            cells,
+            want,
+        );
+    }
+    turn
+}
+
+// Makes the buffers and the lists once, and lends them.
 fn main() {
     let mut input = io::large_buffer();
     let mut word = [0u8; 16];
@@ -231,26 +315,15 @@ fn main() {
     let mut tallies = [0u64; 32];
     let mut cells = [0i64; 95768];
     let mut want = [0i64; 95768];
-    let mut s = lines::start();
-    let mut b = book::start();
-    let mut turns = u64::MAX;
-    while 0 < turns {
-        s = lines::next_line(s, &mut input, &mut word, &mut numbers);
-        b = take_line(
-            b,
-            s,
-            &word,
-            &numbers,
-            &mut setup,
-            &mut call,
-            &mut tallies,
-            &mut cells,
-            &mut want,
-        );
-        if b.ended != book::RUNNING {
-            end::print_end(b, s.line, &tallies);
-            return;
-        }
-        turns -= 1;
-    }
+    let last = take_all(
+        &mut input,
+        &mut word,
+        &mut numbers,
+        &mut setup,
+        &mut call,
+        &mut tallies,
+        &mut cells,
+        &mut want,
+    );
+    end::print_end(last, &tallies);
 }

@@ -1,95 +1,49 @@
--- `replay::main` is safe and ends. The measure is the number of turns that are left; the buffers keep their lengths. Assumes nothing.
-use mathlib.Core.Path.{_≡_}
-use lib.ListN.{length}
+-- `replay::main` is safe and ends, and hands the end of a run to `print_end`. Assumes nothing.
 use borrow.Author.Needs.{needs}
 use Rattle.replay.proofs.main.Statement.{statement}
 use Rattle.replay.proofs.main.Tie as tie
 
-abbrev Inv-loop : tie.InvT-loop
-Inv-loop input₀ word₀ numbers₀ tallies₀ s₀ turns₀ input word numbers tallies s turns = (length input ≡ 65536) × (length word ≡ 16) × (length numbers ≡ 1024) × (length tallies ≡ 32)
-
-abbrev μ-loop : tie.MeasureT-loop
-μ-loop input₀ word₀ numbers₀ tallies₀ s₀ turns₀ input word numbers tallies s turns = turns
-
-large-buffer-requires : tie.Need-large-buffer-requires Inv-loop μ-loop
+large-buffer-requires : tie.Need-large-buffer-requires
 large-buffer-requires c κs = search needs
 
-start-requires : tie.Need-start-requires Inv-loop μ-loop
-start-requires c κs = search needs
+slice-aggregate-take-all : tie.Need-slice-aggregate-take-all
+slice-aggregate-take-all c = search needs
 
-loop-holds : tie.Need-loop-holds Inv-loop μ-loop
-loop-holds c = search needs
+slice-aggregate-take-all-2 : tie.Need-slice-aggregate-take-all-2
+slice-aggregate-take-all-2 c = search needs
 
-slice-aggregate-next-line : tie.Need-slice-aggregate-next-line Inv-loop μ-loop
-slice-aggregate-next-line c = search needs
+slice-aggregate-take-all-3 : tie.Need-slice-aggregate-take-all-3
+slice-aggregate-take-all-3 c = search needs
 
-slice-aggregate-next-line-2 : tie.Need-slice-aggregate-next-line-2 Inv-loop μ-loop
-slice-aggregate-next-line-2 c = search needs
+slice-aggregate-take-all-4 : tie.Need-slice-aggregate-take-all-4
+slice-aggregate-take-all-4 c = search needs
 
-slice-aggregate-next-line-3 : tie.Need-slice-aggregate-next-line-3 Inv-loop μ-loop
-slice-aggregate-next-line-3 c = search needs
+take-all-requires : tie.Need-take-all-requires
+take-all-requires c κs = search needs
 
-next-line-requires : tie.Need-next-line-requires Inv-loop μ-loop
-next-line-requires c κs = search needs
-
-slice-aggregate-take-line : tie.Need-slice-aggregate-take-line Inv-loop μ-loop
-slice-aggregate-take-line c = search needs
-
-slice-aggregate-take-line-2 : tie.Need-slice-aggregate-take-line-2 Inv-loop μ-loop
-slice-aggregate-take-line-2 c = search needs
-
-slice-aggregate-take-line-3 : tie.Need-slice-aggregate-take-line-3 Inv-loop μ-loop
-slice-aggregate-take-line-3 c = search needs
-
-take-line-requires : tie.Need-take-line-requires Inv-loop μ-loop
-take-line-requires c κs = search needs
-
-slice-aggregate-print-end : tie.Need-slice-aggregate-print-end Inv-loop μ-loop
+slice-aggregate-print-end : tie.Need-slice-aggregate-print-end
 slice-aggregate-print-end c = search needs
 
-slice-aggregate-print-end-2 : tie.Need-slice-aggregate-print-end-2 Inv-loop μ-loop
+slice-aggregate-print-end-2 : tie.Need-slice-aggregate-print-end-2
 slice-aggregate-print-end-2 c = search needs
 
-print-end-requires : tie.Need-print-end-requires Inv-loop μ-loop
+print-end-requires : tie.Need-print-end-requires
 print-end-requires c κs = search needs
 
-returns : tie.Need-returns Inv-loop μ-loop
+returns : tie.Need-returns
 returns c = search needs
-
-sub-turns : tie.Need-sub-turns Inv-loop μ-loop
-sub-turns c = search needs
-
-loop-less : tie.Need-loop-less Inv-loop μ-loop
-loop-less c = search needs
-
-loop-again : tie.Need-loop-again Inv-loop μ-loop
-loop-again c = search needs
-
-returns-2 : tie.Need-returns-2 Inv-loop μ-loop
-returns-2 c = search needs
 
 pub main-spec : {M : Type 1} → statement M
 main-spec =
     tie.close
     (tie.spec
-    Inv-loop
-    μ-loop
     large-buffer-requires
-    start-requires
-    loop-holds
-    slice-aggregate-next-line
-    slice-aggregate-next-line-2
-    slice-aggregate-next-line-3
-    next-line-requires
-    slice-aggregate-take-line
-    slice-aggregate-take-line-2
-    slice-aggregate-take-line-3
-    take-line-requires
+    slice-aggregate-take-all
+    slice-aggregate-take-all-2
+    slice-aggregate-take-all-3
+    slice-aggregate-take-all-4
+    take-all-requires
     slice-aggregate-print-end
     slice-aggregate-print-end-2
     print-end-requires
-    returns
-    sub-turns
-    loop-less
-    loop-again
-    returns-2)
+    returns)

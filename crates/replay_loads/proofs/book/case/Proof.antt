@@ -1,5 +1,5 @@
 -- `replay_loads::book::case` meets its contract. The measure is how many lists are left. Assumes nothing.
-use mathlib.Core.Path.{_≡_}
+use mathlib.Core.Path.{_≡_, ap}
 use Prim.Native.Nat.{_+_, _-_, _≤_, _<_}
 use native.Mathlib.Omega.{arith}
 use lib.IntN.{natAbs}
@@ -10,6 +10,7 @@ use borrow.Author.Needs.{sfits-of, needs}
 use borrow.Author.Tests.{eq-eqb}
 use Rattle.intops.proofs.Signed.{back}
 use Rattle.cases.specs.Numbers.{at, IsSize}
+use Rattle.replay_loads.specs.declared.book.Book.{Book}
 use Rattle.replay_loads.specs.Lists.{startOf}
 use Rattle.replay_loads.specs.Calls.{opens, opensNone, LengthsStated, LengthsFit}
 use Rattle.replay_loads.proofs.Runs.{each-more}
@@ -38,7 +39,9 @@ returns-2 : tie.Need-returns-2 Inv-loop μ-loop
 returns-2 c = opensNone {why = 3} (omega arith) (c .ended2 .ensures)
 
 loop-holds : tie.Need-loop-holds Inv-loop μ-loop
-loop-holds c = let e = c .before .before .before .start .ensures in (omega arith, e .3, e .0, e .1, e .2, λ i h j. absurd (omega arith), λ i h. absurd (omega arith))
+loop-holds c =
+    let e = c .before .before .before .start .ensures in
+    (omega arith, ap (λ (b : Book). length (b .lengths)) e, ap (λ (b : Book). b .ended) e, ap (λ (b : Book). b .setup) e, ap (λ (b : Book). b .call) e, λ i h j. absurd (omega arith), λ i h. absurd (omega arith))
 
 add-to-usize : tie.Need-add-to-usize Inv-loop μ-loop
 add-to-usize c = search needs

@@ -3,7 +3,7 @@ use native.Mathlib.Omega.{arith}
 use borrow.Author.Needs.{needs}
 use borrow.Author.Tests.{eq-eqb, ne-eqb}
 use Rattle.text.proofs.Put.{put-within}
-use Rattle.replay_loads.specs.Calls.{allTaken, differs, noRoom}
+use Rattle.replay_loads.specs.Calls.{running, allTaken, differs, noRoom}
 use Rattle.replay_loads.specs.Report.{endText}
 use Rattle.replay_loads.proofs.end.put_end.Statement.{statement}
 use Rattle.replay_loads.proofs.end.put_end.Tie as tie
@@ -52,7 +52,20 @@ same-length-4 c = search needs
 
 returns-4 : tie.Need-returns-4
 unfolding endText
-returns-4 c = let e = c .before .before .before .before .before .before .before .before .before .before .before .before .args .b .ended in rw (ne-eqb e allTaken (c .before .before .before .before .before .before .before .before .before .if1 .left), ne-eqb e differs (c .before .before .before .before .before .before .before .if2 .left), ne-eqb e noRoom (c .before .before .before .before .before .if3 .left)) (put-within (omega arith) (c .before .before .put-why2 .ensures))
+returns-4 c = let e = c .before .before .before .before .before .before .before .before .before .before .before .before .before .before .args .b .ended in rw (ne-eqb e allTaken (c .before .before .before .before .before .before .before .before .before .before .before .if1 .left), ne-eqb e differs (c .before .before .before .before .before .before .before .before .before .if2 .left), ne-eqb e noRoom (c .before .before .before .before .before .before .before .if3 .left), eq-eqb e running (c .before .before .before .before .before .if4 .taken)) (put-within (omega arith) (c .before .before .put-why2 .ensures))
+
+slice-aggregate-put-why-3 : tie.Need-slice-aggregate-put-why-3
+slice-aggregate-put-why-3 c = search needs
+
+put-why-requires-3 : tie.Need-put-why-requires-3
+put-why-requires-3 c κs = search needs
+
+same-length-5 : tie.Need-same-length-5
+same-length-5 c = search needs
+
+returns-5 : tie.Need-returns-5
+unfolding endText
+returns-5 c = let e = c .before .before .before .before .before .before .before .before .before .before .before .before .before .before .args .b .ended in rw (ne-eqb e allTaken (c .before .before .before .before .before .before .before .before .before .before .before .if1 .left), ne-eqb e differs (c .before .before .before .before .before .before .before .before .before .if2 .left), ne-eqb e noRoom (c .before .before .before .before .before .before .before .if3 .left), ne-eqb e running (c .before .before .before .before .before .if4 .left)) (put-within (omega arith) (c .before .before .put-why3 .ensures))
 
 pub put-end-spec : {M : Type 1} → statement M
 put-end-spec =
@@ -71,4 +84,8 @@ put-end-spec =
     slice-aggregate-put-why-2
     put-why-requires-2
     same-length-4
-    returns-4)
+    returns-4
+    slice-aggregate-put-why-3
+    put-why-requires-3
+    same-length-5
+    returns-5)
