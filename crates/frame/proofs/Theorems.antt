@@ -8,6 +8,7 @@ use native.Mathlib.Omega.{arith}
 use lib.Dec.{ltb, eqb}
 use lib.ListN.{getD, replicate, getD-replicate}
 use borrow.Author.Tests.{ltb-true, ltb-false, eqb-true, eqb-false, eq-eqb}
+use Rattle.intops.proofs.Tests.{or-neither}
 use Rattle.loops.proofs.Keeps.{set-has, span-in}
 use Rattle.picks.specs.declared.Pocs.{Pocs}
 use Rattle.levels.specs.declared.OrderHint.{OrderHint}
@@ -49,10 +50,6 @@ good-step : (n : ℕ) → badStep n ≡ false → (1 ≤ n) × (n ≤ 2)
 unfolding badStep
 good-step n e = step-go n (eqb n 1) (eqb n 2) refl refl e
 
-neither : (t u : Bool) → (t || u) ≡ false → (t ≡ false) × (u ≡ false)
-neither true u e = let z : _≡_ {A = ℕ} 0 1 = cc in absurd (omega arith)
-neither false u e = (refl, e)
-
 in-range : (f : Header) → refusalOf f ≡ 0 → FrameInRange (frameOf f)
 unfolding refusalOf frameOf
 in-range f e =
@@ -61,7 +58,7 @@ in-range f e =
     let c = passed (ltb 2 (f .sb128)) 4 _ (b .1) in
     let d = passed (badStep (f .«tmvp_sample_step»)) 5 _ (c .1) in
     let g = passed (badSize (f .width) || badSize (f .height)) 6 _ (d .1) in
-    let h = neither (badSize (f .width)) (badSize (f .height)) (g .0) in
+    let h = or-neither (badSize (f .width)) (badSize (f .height)) (g .0) in
     let w = good-size (f .width) (h .0) in let t = good-size (f .height) (h .1) in
     let p = good-step (f .«tmvp_sample_step») (d .0) in let s = sources-in f e in
     record {

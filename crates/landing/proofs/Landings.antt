@@ -1,12 +1,12 @@
 -- A vector in range, and where one lands. Assumes nothing.
 use mathlib.Core.Path.{_≡_, refl}
-use mathlib.Core.Bool.{Bool, true, false, _&&_, _||_}
+use mathlib.Core.Bool.{Bool, true, false, _&&_}
 use Prim.Native.Nat.{ℕ, _+_, _*_, _/_, _%_, _≤_, _<_, min}
 use native.Mathlib.Omega.{arith}
 use borrow.Author.Tests.{leb-true, ltb-true, ltb-false}
 use lib.Dec.{leb, ltb}
 use lib.IntN.{negℤ, natAbs}
-use Rattle.intops.proofs.Tests.{and-both}
+use Rattle.intops.proofs.Tests.{and-both, or-neither}
 use Rattle.levels.specs.declared.Mv.{Mv}
 use Rattle.mv.specs.Projection.{pastRange}
 use Rattle.tile.specs.declared.Tile.{Tile}
@@ -18,14 +18,10 @@ use Rattle.landing.specs.Code.{Landing}
 use Rattle.project.proofs.Owned.{landed}
 
 -- a vector in range
-either : (a b : Bool) → (a || b) ≡ false → (a ≡ false) × (b ≡ false)
-either false b h = (refl, h)
-either true b h = (h, cc)
-
 pub in-range : (v : Mv) → pastRange v ≡ false → (natAbs (v .y) ≤ 65535) × (natAbs (v .x) ≤ 65535)
 unfolding pastRange
 in-range v h =
-    let b = either (ltb 65535 (natAbs (v .y))) (ltb 65535 (natAbs (v .x))) h in
+    let b = or-neither (ltb 65535 (natAbs (v .y))) (ltb 65535 (natAbs (v .x))) h in
     (ltb-false 65535 (natAbs (v .y)) (b .0), ltb-false 65535 (natAbs (v .x)) (b .1))
 
 module _ (t : Tile) (k : Sound t) where

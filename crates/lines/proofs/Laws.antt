@@ -1,13 +1,14 @@
 -- Laws of the reader. Assumes nothing.
-use mathlib.Core.Bool.{false}
+use mathlib.Core.Bool.{false, not}
 use mathlib.Core.List.{List}
-use mathlib.Core.Path.{_≡_, refl, subst}
+use mathlib.Core.Path.{_≡_, refl}
 use Prim.Native.Nat.{ℕ, zero, suc, _+_, _-_, _<_, _≤_}
 use native.Mathlib.Omega.{arith}
-use lib.Dec.{T, eqb}
+use lib.Dec.{eqb}
 use lib.IntN.{ℤ}
 use lib.ListN.{length, getD}
-use borrow.Author.Tests.{lt-ltb, le-ltb, eq-eqb, ne-eqb, eqb-true, not-false}
+use borrow.Author.Tests.{lt-ltb, le-ltb, eq-eqb, ne-eqb, eqb-true, eqb-false, not-false}
+use Rattle.intops.proofs.Tests.{or-neither}
 use Rattle.lines.specs.declared.State.{State}
 use Rattle.lines.specs.Line.{nothing, allRead, newline, atStart, inWord, atNumber, inDigits, finds, bytes, refused, startStep, wordStep, numberStep, digitsStep, commentStep, Reader, withWord, withNumbers, withState, step, taken, unlessFound, stepsFrom, steps, endInput, given, ReadSome, Reads, never, found, then, isLast}
 
@@ -96,13 +97,11 @@ found-never n h = let e : n ≡ 0 = omega arith in rw e never
 
 -- ---- a turn of a run that is not the last: turns may follow, the next has one less behind it, and its line has not ended the run
 
-pub turns-left : (left ended : ℕ) → isLast left ended ≡ false → 1 ≤ left
-turns-left zero ended e = absurd (subst T e tt)
-turns-left (suc n) ended e = omega arith
+pub more-turns : (left ended : ℕ) → isLast left ended ≡ false → 1 ≤ left
+more-turns left ended e = let n = eqb-false left 0 (or-neither (eqb left 0) (not (eqb ended 0)) e .0) in omega arith
 
 pub one-less : {next : ℕ} (left ended : ℕ) → isLast left ended ≡ false → next ≡ left - 1 → next + 1 ≡ left
-one-less left ended e h = let more = turns-left left ended e in omega (arith, more, h)
+one-less left ended e h = let more = more-turns left ended e in omega (arith, more, h)
 
 pub still-runs : (left ended : ℕ) → isLast left ended ≡ false → ended ≡ 0
-still-runs zero ended e = absurd (subst T e tt)
-still-runs (suc n) ended e = eqb-true ended 0 (not-false (eqb ended 0) (rw (ne-eqb (suc n) 0 (λ z. omega arith)) at e))
+still-runs left ended e = eqb-true ended 0 (not-false (eqb ended 0) (or-neither (eqb left 0) (not (eqb ended 0)) e .1))

@@ -4,7 +4,7 @@ use native.Mathlib.Omega.{arith}
 use lib.ListN.{length}
 use borrow.Author.Needs.{needs}
 use borrow.Author.Tests.{not-true, not-false}
-use Rattle.lines.proofs.Laws.{turns-left, one-less, still-runs}
+use Rattle.lines.proofs.Laws.{more-turns, one-less, still-runs}
 use Rattle.replay_loads.specs.Run.{kept, Ran, first, then}
 use Rattle.replay_loads.proofs.take_all.Statement.{statement}
 use Rattle.replay_loads.proofs.take_all.Tie as tie
@@ -38,7 +38,7 @@ sub-take-next : tie.Need-sub-take-next Inv-loop μ-loop
 sub-take-next c =
     let last = c .before .before .is-last in
     let t = c .before .before .before .loop .turn in
-    let more = turns-left (t .left) (t .book .ended) (sym (last .ensures) ∙ not-true (last .result) (c .before .if1 .taken)) in more
+    let more = more-turns (t .left) (t .book .ended) (sym (last .ensures) ∙ not-true (last .result) (c .before .if1 .taken)) in more
 
 take-next-requires-2 : tie.Need-take-next-requires-2 Inv-loop μ-loop
 take-next-requires-2 c κs = let l = c .before .before .before .before .before .before .before .before .before .before .before .loop in let k = c .before .before .before .before .before .before .before .before .before .before .before .before .before .before .before .before .before .before .before .before .before .before .before .take-next in let pre = c .before .before .before .before .before .before .before .before .before .before .before .before .before .before .before .before .before .before .before .before .before .before .before .before .before .before .before .before .before .before .before .before .before .before .before .before .before .pre in (l .inv .3 ∙ k .kept .1 .1 .1 .1 .1 .1 .0 ∙ pre .1, l .inv .4 ∙ k .kept .1 .1 .1 .1 .1 .1 .1 .0 ∙ pre .2, l .inv .6 ∙ k .kept .1 .1 .1 .1 .1 .1 .1 .1 .1 .0 ∙ pre .3, l .inv .7 ∙ k .kept .1 .1 .1 .1 .1 .1 .1 .1 .1 .1 .0 ∙ pre .4)
@@ -47,7 +47,7 @@ loop-less : tie.Need-loop-less Inv-loop μ-loop
 loop-less c =
     let last = c .before .before .before .before .before .before .before .before .before .before .before .before .before .before .before .before .before .before .before .before .before .before .is-last in
     let t = c .before .before .before .before .before .before .before .before .before .before .before .before .before .before .before .before .before .before .before .before .before .before .before .loop .turn in
-    let more = turns-left (t .left) (t .book .ended) (sym (last .ensures) ∙ not-true (last .result) (c .before .before .before .before .before .before .before .before .before .before .before .before .before .before .before .before .before .before .before .before .before .if1 .taken)) in
+    let more = more-turns (t .left) (t .book .ended) (sym (last .ensures) ∙ not-true (last .result) (c .before .before .before .before .before .before .before .before .before .before .before .before .before .before .before .before .before .before .before .before .before .if1 .taken)) in
     omega (arith, more, c .before .before .before .before .before .before .before .before .before .before .before .take-next2 .ensures .0)
 
 loop-again : tie.Need-loop-again Inv-loop μ-loop

@@ -4,7 +4,7 @@ use native.Mathlib.Omega.{arith}
 use lib.ListN.{length}
 use borrow.Author.Needs.{needs}
 use borrow.Author.Tests.{not-true, not-false}
-use Rattle.unpack.proofs.Turns.{turns-left}
+use Rattle.unpack.proofs.Turns.{more-turns}
 use Rattle.unpack.proofs.unpack_all.Statement.{statement}
 use Rattle.unpack.proofs.unpack_all.Tie as tie
 
@@ -26,7 +26,7 @@ is-last-requires c κs = search needs
 sub-unpack-some : tie.Need-sub-unpack-some Inv-loop μ-loop
 sub-unpack-some c =
     let last = c .before .before .is-last in
-    turns-left (c .before .before .before .loop .turn) _ (sym (last .ensures) ∙ not-true (last .result) (c .before .if1 .taken))
+    more-turns (c .before .before .before .loop .turn) _ (sym (last .ensures) ∙ not-true (last .result) (c .before .if1 .taken))
 
 unpack-some-requires-2 : tie.Need-unpack-some-requires-2 Inv-loop μ-loop
 unpack-some-requires-2 c κs = search needs
@@ -35,7 +35,7 @@ loop-less : tie.Need-loop-less Inv-loop μ-loop
 loop-less c =
     let last = c .before .before .before .before .before .before .before .before .before .is-last in
     let t = c .before .before .before .before .before .before .before .before .before .before .loop .turn in
-    let more = turns-left t _ (sym (last .ensures) ∙ not-true (last .result) (c .before .before .before .before .before .before .before .before .if1 .taken)) in
+    let more = more-turns t _ (sym (last .ensures) ∙ not-true (last .result) (c .before .before .before .before .before .before .before .before .if1 .taken)) in
     omega (arith, more, c .before .before .before .before .unpack-some2 .ensures .0)
 
 loop-again : tie.Need-loop-again Inv-loop μ-loop
