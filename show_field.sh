@@ -12,5 +12,5 @@ text | picture)
     shift
     ;;
 esac
-prove show_field
-exec "$root/target/bin/show_field" "$form" < "${1:-$root/examples/sample.frame}"
+prove show_field "$root/examples/sample.frame" text
+exec "$root/crates/show_field/out/show_field" "$form" < "${1:-$root/examples/sample.frame}"

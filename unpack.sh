@@ -5,5 +5,5 @@ set -euo pipefail
 root=$(cd "$(dirname "$0")" && pwd)
 . "$root/tests/setup.sh"
 need rt
-prove unpack
-exec "$root/target/bin/unpack" < "${1:-$root/examples/sample.mv}"
+prove unpack "$root/examples/sample.mv"
+exec "$root/crates/unpack/out/unpack" < "${1:-$root/examples/sample.mv}"

@@ -1,8 +1,8 @@
 /* A decoder's loop over two frames: a setup once a frame, then the tiles of each superblock row in any order.
  * Prints what the field holds; bindings/rust/examples/decoder_loop.rs is the same in Rust, and prints the same.
  *
- *     rt staticlib refmvs
- *     cc -Iinclude examples/decoder_loop.c target/staticlib/librefmvs.a -o decoder_loop */
+ *     bash library.sh
+ *     cc -Iinclude examples/decoder_loop.c target/lib/librefmvs.a -o decoder_loop */
 #include "refmvs.h"
 
 #include <stdint.h>

@@ -1,4 +1,4 @@
-/* The motion field library for C. Link target/staticlib/librefmvs.a (`rt staticlib refmvs`).
+/* The motion field library for C. Link target/lib/librefmvs.a (`bash library.sh`).
  *
  * Every entry takes any numbers. It answers 0 and writes its result into the buffer that the caller
  * lends, or answers the refusal's number and leaves the buffer as it was; the setup, which is given

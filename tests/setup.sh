@@ -15,11 +15,13 @@ together() {
     return "$status"
 }
 
-# prove PROGRAM: proves and builds it where that is not done yet; says so, and shows what rt said where it fails.
+# prove PROGRAM INPUT ARGS..: proves and builds it where that is not done yet, and runs it once on that input; says so, and
+# shows what rt said where it fails.
 prove() {
-    local said
-    [ -x "$root/target/bin/$1" ] || echo "proving and building $1: some minutes" >&2
-    said=$(cd "$root" && rt check "$1" 2>&1) || { echo "$said" | tail -20 >&2; return 1; }
+    local name=$1 input=$2 said
+    shift 2
+    [ -x "$root/crates/$name/out/$name" ] || echo "proving and building $name: some minutes" >&2
+    said=$( (cd "$root/crates/$name" && rt run -- "$@" <"$input") 2>&1 >/dev/null) || { echo "$said" | tail -20 >&2; return 1; }
 }
 
 # need COMMAND..: each is there, or is installed from Debian's packages where that can be done.

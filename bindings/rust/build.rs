@@ -1,4 +1,4 @@
-//! Points the linker at librefmvs.a: in the folder that REFMVS_LIB names, or in target/staticlib of the repository.
+//! Points the linker at librefmvs.a: in the folder that REFMVS_LIB names, or in target/lib of the repository.
 use std::path::PathBuf;
 use std::{env, process};
 
@@ -11,7 +11,7 @@ fn folder() -> PathBuf {
     match env::var_os("REFMVS_LIB") {
         Some(given) => PathBuf::from(given),
         None => {
-            PathBuf::from(env::var_os("CARGO_MANIFEST_DIR").unwrap()).join("../../target/staticlib")
+            PathBuf::from(env::var_os("CARGO_MANIFEST_DIR").unwrap()).join("../../target/lib")
         }
     }
 }
@@ -28,7 +28,7 @@ fn main() {
     println!("cargo:rerun-if-changed={}", archive.display());
     if !archive.is_file() {
         fail(format!(
-            "{} is missing. Make it with `rt staticlib refmvs` at the repository's root, or set REFMVS_LIB to the \
+            "{} is missing. Make it with `bash library.sh` at the repository's root, or set REFMVS_LIB to the \
              folder that has librefmvs.a",
             archive.display()
         ));

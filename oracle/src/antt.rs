@@ -64,13 +64,8 @@ pub fn with_stack<T: Send + 'static>(run: impl FnOnce() -> T + Send + 'static) -
 mod tests {
     use super::*;
 
-    const USES: &str = "use mathlib.Core.Bool.{Bool, true, false, cond, not, _&&_, _||_}
-use mathlib.Core.List.{List, [], _∷_, _++_}
-use Prim.Native.Nat.{ℕ, zero, suc, _+_, _-_, _*_, _/_, _%_, _^_}
-use lib.Dec.{leb, ltb, eqb}
-use lib.IntN.{ℤ, pos, negsuc, natAbs, _+ℤ_, _-ℤ_, _*ℤ_}
-use lib.ListN.{length, getD, set, drop}
-use Rattle·loops.specs.Over.{span}
+    const USES: &str = "use Rattle.std.specs.Prelude.{Bool, true, false, cond, not, ◌&&◌, ◌||◌, List, [], ◌∷◌, ◌++◌, ℕ, zero, suc, ◌+◌, ◌-◌, ◌*◌, ◌/◌, ◌%◌, ◌^◌, leb, ltb, eqb, ℤ, pos, negsuc, nat_abs, ◌+ℤ◌, ◌-ℤ◌, ◌*ℤ◌, length, get_or, set, drop, if◌then◌else◌, ◌==◌}
+use Rattle.loops.specs.Over.{span}
 ";
     const LOOPS: &str = "span : {S : Type 0} → (ℕ → S → S) → ℕ → ℕ → S → S
 span f a b s = s
@@ -99,22 +94,26 @@ span f a b s = s
         );
         assert_eq!(it("it : ℕ\nit = cond (true || false && false) 1 2"), 1);
         assert_eq!(it("it : ℕ\nit = 5 - 7 + (7 / 0) + 7 % 0"), 7);
+        assert_eq!(
+            it("it : ℕ\nit = 2 * (if 1 + 1 == 2 && true then 3 else 4) + 1"),
+            7
+        );
         assert_eq!(it("it : ℕ\nit = length ((1 + 1) ∷ 2 ∷ []) + 0x1f"), 33);
     }
 
     #[test]
     fn texts_are_lists_of_numbers() {
         let ascii = "use Prim.Native.Char.{code}
-use Prim.Native.String.{String, charAt, len}
+use Prim.Native.String.{String, char_at, len}
 from : String → ℕ → ℕ → List ℕ
 from word zero i = []
-from word (suc n) i = code (charAt word i) ∷ from word n (i + 1)
+from word (suc n) i = code (char_at word i) ∷ from word n (i + 1)
 ascii : String → List ℕ
 ascii word = from word (len word) 0
 ";
         let at = |k: u32| {
             it(&format!(
-                "{ascii}it : ℕ\nit = getD (ascii \"a (b)\\n\" ++ ascii \" -- c\") {k} 0"
+                "{ascii}it : ℕ\nit = get_or (ascii \"a (b)\\n\" ++ ascii \" -- c\") {k} 0"
             ))
         };
         assert_eq!(
@@ -178,11 +177,11 @@ it =
 
     #[test]
     fn blocks_of_statements() {
-        let text = "_>>=_ : (ℕ → ℕ × ℕ) → (ℕ → ℕ → ℕ × ℕ) → ℕ → ℕ × ℕ
-_>>=_ m f s = let r = m s in f (r .0) (r .1)
+        let text = "◌>>=◌ : (ℕ → ℕ × ℕ) → (ℕ → ℕ → ℕ × ℕ) → ℕ → ℕ × ℕ
+◌>>=◌ m f s = let r = m s in f (r .0) (r .1)
 
-_>>_ : (ℕ → ℕ × ℕ) → (ℕ → ℕ × ℕ) → ℕ → ℕ × ℕ
-_>>_ m n s = n (m s .1)
+◌>>◌ : (ℕ → ℕ × ℕ) → (ℕ → ℕ × ℕ) → ℕ → ℕ × ℕ
+◌>>◌ m n s = n (m s .1)
 
 tick : ℕ → ℕ × ℕ
 tick s = (s, suc s)

@@ -16,8 +16,7 @@ ghost use Rattle.c_setup.specs.Setup.{on, header_of, given_by, frame_of};
 use c_setup::{CFrame, CHeader, CSetup};
 use levels::OrderHint;
 
-#[unsafe(no_mangle)]
-pub extern "C" fn refmvs_mv_projection(
+pub fn refmvs_mv_projection(
     y: i32,
     x: i32,
     num: i32,
@@ -31,30 +30,26 @@ pub extern "C" fn refmvs_mv_projection(
     lent::mv_projection(y, x, num, den, min, max, out)
 }
 
-#[unsafe(no_mangle)]
-pub extern "C" fn refmvs_scale_mv(y: i32, x: i32, sf: i32, out: &mut [i32; 2]) -> u32
+pub fn refmvs_scale_mv(y: i32, x: i32, sf: i32, out: &mut [i32; 2]) -> u32
     ensures { Gives (scale_mv (record { y = y; x = x }) sf) result out.old out.new }
 {
     lent::scale_mv(y, x, sf, out)
 }
 
-#[unsafe(no_mangle)]
-pub extern "C" fn refmvs_dequantize_mv(y: i8, x: i8, out: &mut [i32; 2]) -> u32
+pub fn refmvs_dequantize_mv(y: i8, x: i8, out: &mut [i32; 2]) -> u32
     ensures { Gives (unpacked (record { y = y; x = x })) result out.old out.new }
 {
     lent::dequantize_mv(y, x, out)
 }
 
 // Packing refuses nothing: what has no code is the mark.
-#[unsafe(no_mangle)]
-pub extern "C" fn refmvs_quantize_mv(y: i32, x: i32, out: &mut [i8; 2]) -> u32
+pub fn refmvs_quantize_mv(y: i32, x: i32, out: &mut [i8; 2]) -> u32
     ensures { GivesBytes (packed (record { y = y; x = x })) result out.old out.new }
 {
     lent::quantize_mv(y, x, out)
 }
 
-#[unsafe(no_mangle)]
-pub extern "C" fn refmvs_get_poc_diff(
+pub fn refmvs_get_poc_diff(
     order_hint_n_bits: u32,
     poc0: OrderHint,
     poc1: OrderHint,
@@ -65,8 +60,7 @@ pub extern "C" fn refmvs_get_poc_diff(
     lent::get_poc_diff(order_hint_n_bits, poc0, poc1, out)
 }
 
-#[unsafe(no_mangle)]
-pub extern "C" fn refmvs_init_frame(header: CHeader) -> CSetup
+pub fn refmvs_init_frame(header: CHeader) -> CSetup
     ensures { given_by result ≡ setup_of (header_of header) }
 {
     let s = frame::init_frame(c_setup::header_of(header));
@@ -77,8 +71,7 @@ pub extern "C" fn refmvs_init_frame(header: CHeader) -> CSetup
 }
 
 // A load of a tile. The lent slices may be longer than 01 states; a refused call leaves them as they were.
-#[unsafe(no_mangle)]
-pub extern "C" fn refmvs_load_tmvs(
+pub fn refmvs_load_tmvs(
     field_y: &mut [i32],
     field_x: &mut [i32],
     field_ref: &mut [u8],

@@ -10,11 +10,11 @@ pub type Fixities = HashMap<String, (u32, bool)>;
 type Read<T> = Result<T, String>;
 
 const MARKS: [&str; 4] = ["unfoldable", "abbrev", "pub", "axiom"];
-const STOPS: [&str; 12] = [
-    ")", "}", ";", ",", "=", "in", "←", ":", ".", "where", "|", "↦",
+const STOPS: [&str; 14] = [
+    ")", "}", ";", ",", "=", "in", "←", ":", ".", "where", "|", "↦", "then", "else",
 ];
 
-/// The fixities that the file declares, `infixl 70 _⊓_`.
+/// The fixities that the file declares, `infixl 70 ◌⊓◌`.
 pub fn fixities(text: &str, all: &mut Fixities) {
     for line in text.lines() {
         let words: Vec<&str> = line.split_whitespace().collect();
@@ -23,7 +23,7 @@ pub fn fixities(text: &str, all: &mut Fixities) {
         };
         let Ok(level) = level.parse() else { continue };
         for name in names {
-            let name = name.trim_matches('_').to_string();
+            let name = name.trim_matches('◌').to_string();
             all.insert(name, (level, *kind == "infixr"));
         }
     }
@@ -182,7 +182,7 @@ fn clause(chunk: &[Token], equals: usize, fixities: &Fixities) -> Read<Item> {
     Ok(Item::Clause(name, clause))
 }
 
-/// `f p q`, or `p ⊕ q` for `_⊕_`.
+/// `f p q`, or `p ⊕ q` for `◌⊕◌`.
 fn left_side(left: &[Token], fixities: &Fixities) -> Read<(String, Vec<Pattern>)> {
     let mut reader = Reader::new(left, fixities);
     let mut parts = Vec::new();
@@ -190,7 +190,7 @@ fn left_side(left: &[Token], fixities: &Fixities) -> Read<(String, Vec<Pattern>)
         if token.text == "{" {
             reader.skip_brackets();
         } else if fixities.contains_key(&token.text) {
-            let name = format!("_{}_", token.text);
+            let name = format!("◌{}◌", token.text);
             reader.at += 1;
             let right = reader.pattern()?;
             let left = join(parts)?;
@@ -326,7 +326,7 @@ impl<'a> Reader<'a> {
             }
             self.at += 1;
             let right = self.operation(if to_right { level } else { level + 1 })?;
-            let name = Term::Name(format!("_{}_", token.text));
+            let name = Term::Name(format!("◌{}◌", token.text));
             left = Term::App(Box::new(name), vec![left, right]);
         }
         Ok(left)
@@ -346,7 +346,7 @@ impl<'a> Reader<'a> {
             } else if STOPS.contains(&text) || self.fixities.contains_key(text) {
                 break;
             } else {
-                let last = matches!(text, "λ" | "let" | "do");
+                let last = matches!(text, "λ" | "let" | "do" | "if");
                 arguments.push(self.atom()?);
                 if last {
                     break;
@@ -380,12 +380,23 @@ impl<'a> Reader<'a> {
                 Ok(Term::Let(pattern, Box::new(value), Box::new(self.term()?)))
             }
             "do" => self.statements(),
+            "if" => self.choice(),
             "record" => self.record(),
             _ if STOPS.contains(&text) => Err(format!("a term is expected, not {text}")),
             "elim" | "unfold" | "open" => Err(format!("{text} is not understood")),
             _ if text.starts_with('"') => quoted(text).map(Term::Text),
             _ => Ok(number(text).map_or_else(|| Term::Name(text.to_string()), Term::Number)),
         }
+    }
+
+    /// `if b then x else y`.
+    fn choice(&mut self) -> Read<Term> {
+        let test = self.term()?;
+        self.eat("then")?;
+        let first = self.term()?;
+        self.eat("else")?;
+        let head = Term::Name("if◌then◌else◌".to_string());
+        Ok(Term::App(Box::new(head), vec![test, first, self.term()?]))
     }
 
     fn bracketed(&mut self) -> Read<Term> {
@@ -505,7 +516,7 @@ impl<'a> Reader<'a> {
         let mut parts = Vec::new();
         while let Some(token) = self.peek() {
             if self.fixities.contains_key(&token.text) {
-                let name = format!("_{}_", token.text);
+                let name = format!("◌{}◌", token.text);
                 self.at += 1;
                 return Ok(Pattern::Made(name, vec![join(parts)?, self.pattern()?]));
             }

@@ -139,14 +139,14 @@ fn collect(folder: &Path, prefix: &str, all: &mut Vec<(String, PathBuf)>) -> io:
     Ok(())
 }
 
-/// `Rattle·mv.specs.Packing` and `Rattle·mv·specs.specs.Packing` are `mv.Packing`; others stay.
+/// `Rattle.mv.specs.Packing` is `mv.Packing`; those of std and others stay.
 fn module_name(path: &str) -> String {
-    let Some(rest) = path.strip_prefix("Rattle·") else {
-        return path.to_string();
-    };
-    match rest.split_once(".specs.") {
-        Some((name, module)) => format!("{}.{module}", name.trim_end_matches("·specs")),
-        None => rest.to_string(),
+    let own = path
+        .strip_prefix("Rattle.")
+        .filter(|rest| !rest.starts_with("std."));
+    match own.and_then(|rest| rest.split_once(".specs.")) {
+        Some((name, module)) => format!("{name}.{module}"),
+        None => path.to_string(),
     }
 }
 
@@ -210,10 +210,10 @@ impl Library {
             self.add_function(name.to_string(), arity, Body::Native(native));
         }
         let constants = [
-            ("Prim.Native.Nat.zero", Entity::Zero),
-            ("mathlib.Core.Bool.true", Entity::True),
-            ("mathlib.Core.Bool.false", Entity::False),
-            ("mathlib.Core.List.[]", Entity::Nil),
+            ("Rattle.std.specs.Prelude.zero", Entity::Zero),
+            ("Rattle.std.specs.Prelude.true", Entity::True),
+            ("Rattle.std.specs.Prelude.false", Entity::False),
+            ("Rattle.std.specs.Prelude.[]", Entity::Nil),
         ];
         for (name, entity) in constants {
             self.by_name.insert(name.to_string(), entity);
@@ -307,7 +307,7 @@ impl Library {
             let whole = format!("{path}.{there}");
             let entity = match self.by_name.get(&whole) {
                 Some(entity) => entity.clone(),
-                None if path.ends_with(".the-variants") => {
+                None if path.ends_with(".TheVariants") => {
                     Entity::Con(self.names.constructor(&whole))
                 }
                 None => Entity::Unknown(whole),
@@ -631,7 +631,7 @@ impl Inside<'_> {
             Statement::Plain(term) if rest.is_empty() => self.term(term),
             Statement::Plain(term) => {
                 let (first, rest) = (self.term(term), self.statements(rest));
-                apply(self.name("_>>_"), vec![first, rest])
+                apply(self.name("◌>>◌"), vec![first, rest])
             }
             Statement::Bind(pattern, term) => {
                 let first = self.term(term);
@@ -641,7 +641,7 @@ impl Inside<'_> {
                 let body = self.under(pattern, &[var], |inside| inside.statements(rest));
                 self.locals.truncate(before);
                 let rest = Ir::Lam(vec![var], Box::new(body));
-                apply(self.name("_>>=_"), vec![first, rest])
+                apply(self.name("◌>>=◌"), vec![first, rest])
             }
             Statement::Let(pattern, term) => {
                 self.let_in(pattern, term, |inside| inside.statements(rest))

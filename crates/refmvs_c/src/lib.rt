@@ -1,0 +1,103 @@
+// What C and Rust call of refmvs: each export calls the library's function of that name and states its clauses again.
+// include/refmvs.h declares them.
+#![tactic(auto)]
+
+ghost use Rattle.mv.specs.Projection.{mv_projection, scale_mv};
+ghost use Rattle.mv.specs.Packing.{packed, unpacked};
+ghost use Rattle.env.specs.Hints.{poc_diff};
+ghost use Rattle.frame.specs.Frame.{setup_of};
+ghost use Rattle.std.specs.Prelude.{◌≡◌};
+ghost use Rattle.store.specs.Store.{pack};
+ghost use Rattle.store.specs.Calls.{called};
+ghost use Rattle.load.specs.Calls.{answer, load};
+ghost use Rattle.checks.specs.Answer.{call_of};
+ghost use Rattle.lent.specs.Lent.{Gives, GivesBytes, GivesDiff};
+ghost use Rattle.c_setup.specs.Setup.{on, header_of, given_by, frame_of};
+
+use c_setup::{CFrame, CHeader, CSetup};
+use levels::OrderHint;
+
+#[unsafe(no_mangle)]
+pub extern "C" fn refmvs_mv_projection(
+    y: i32,
+    x: i32,
+    num: i32,
+    den: i32,
+    min: i32,
+    max: i32,
+    out: &mut [i32; 2],
+) -> u32
+    ensures { Gives (mv_projection (record { y = y; x = x }) num den «min» «max») result out.old out.new }
+{
+    refmvs::refmvs_mv_projection(y, x, num, den, min, max, out)
+}
+
+#[unsafe(no_mangle)]
+pub extern "C" fn refmvs_scale_mv(y: i32, x: i32, sf: i32, out: &mut [i32; 2]) -> u32
+    ensures { Gives (scale_mv (record { y = y; x = x }) sf) result out.old out.new }
+{
+    refmvs::refmvs_scale_mv(y, x, sf, out)
+}
+
+#[unsafe(no_mangle)]
+pub extern "C" fn refmvs_dequantize_mv(y: i8, x: i8, out: &mut [i32; 2]) -> u32
+    ensures { Gives (unpacked (record { y = y; x = x })) result out.old out.new }
+{
+    refmvs::refmvs_dequantize_mv(y, x, out)
+}
+
+// Packing refuses nothing: what has no code is the mark.
+#[unsafe(no_mangle)]
+pub extern "C" fn refmvs_quantize_mv(y: i32, x: i32, out: &mut [i8; 2]) -> u32
+    ensures { GivesBytes (packed (record { y = y; x = x })) result out.old out.new }
+{
+    refmvs::refmvs_quantize_mv(y, x, out)
+}
+
+#[unsafe(no_mangle)]
+pub extern "C" fn refmvs_get_poc_diff(
+    order_hint_n_bits: u32,
+    poc0: OrderHint,
+    poc1: OrderHint,
+    out: &mut [i32; 1],
+) -> u32
+    ensures { GivesDiff (poc_diff order_hint_n_bits poc0 poc1) result out.old out.new }
+{
+    refmvs::refmvs_get_poc_diff(order_hint_n_bits, poc0, poc1, out)
+}
+
+#[unsafe(no_mangle)]
+pub extern "C" fn refmvs_init_frame(header: CHeader) -> CSetup
+    ensures { given_by result ≡ setup_of (header_of header) }
+{
+    refmvs::refmvs_init_frame(header)
+}
+
+// A load of a tile. The lent slices may be longer than 01 states; a refused call leaves them as they were.
+#[unsafe(no_mangle)]
+pub extern "C" fn refmvs_load_tmvs(
+    field_y: &mut [i32],
+    field_x: &mut [i32],
+    field_ref: &mut [u8],
+    traj_y: &mut [i32],
+    traj_x: &mut [i32],
+    map_y: &mut [i8],
+    map_x: &mut [i8],
+    planes: &[i8],
+    setup: CFrame,
+    whole_frame: u8,
+    traj: u8,
+    holes: u8,
+    col_start: usize,
+    col_end: usize,
+    row_start: usize,
+    row_end: usize,
+) -> u32
+    ensures { let c = call_of (frame_of setup) (on whole_frame) (on traj) (on holes) col_start col_end row_start row_end planes.now in
+        let s = pack field_y.old field_x.old field_ref.old traj_y.old traj_x.old map_y.old map_x.old in
+        (result ≡ answer c s)
+        × (pack field_y.new field_x.new field_ref.new traj_y.new traj_x.new map_y.new map_x.new
+        ≡ called answer load c s) }
+{
+    refmvs::refmvs_load_tmvs(field_y, field_x, field_ref, traj_y, traj_x, map_y, map_x, planes, setup, whole_frame, traj, holes, col_start, col_end, row_start, row_end)
+}
