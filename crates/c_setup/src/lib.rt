@@ -1,5 +1,7 @@
 // A setup's records as C has them: the header and the setup that C hands over, read as the library's,
 // and the setup that C gets.
+#![tactic(auto)]
+
 ghost use Rattle.std.specs.Prelude.{◌≡◌};
 ghost use Rattle.c_setup.specs.Setup.{header_of, frame_of, switches_of};
 
@@ -9,7 +11,7 @@ use picks::{Pocs, Saved};
 
 // A header as C hands it over: switches are bytes, on where not 0.
 #[repr(C)]
-#[derive(Drop)]
+#[derive(Clone, Copy)]
 pub struct CHeader {
     pub order_hint_n_bits: u32,
     pub width: u32,
@@ -31,7 +33,7 @@ pub struct CHeader {
 
 // The refusal's number, and the record.
 #[repr(C)]
-#[derive(Drop)]
+#[derive(Clone, Copy)]
 pub struct CSetup {
     pub refusal: u32,
     pub frame: Frame,
@@ -39,7 +41,7 @@ pub struct CSetup {
 
 // A setup as C hands it to a load: as it was given, but that switches are bytes, on where not 0.
 #[repr(C)]
-#[derive(Drop)]
+#[derive(Clone, Copy)]
 pub struct CFrame {
     pub width: u32,
     pub height: u32,

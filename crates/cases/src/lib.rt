@@ -1,9 +1,11 @@
 // What the judges of kept cases share: the verdict, and numbers of a line that are to fit a field.
+#![tactic(auto)]
+
 ghost use Rattle.std.specs.Prelude.{◌≡◌, true, ◌≤◌, pos, negsuc, nat_abs, length};
 ghost use Rattle.cases.specs.Numbers.{Inside, Is32, AllInside, is_on, IsSize};
 ghost use Rattle.cases.specs.Verdicts.{WhenTrue, WhenAgrees};
 
-#[derive(Drop)]
+#[derive(Clone, Copy)]
 pub enum Verdict {
     Agrees,
     Differs,

@@ -1,4 +1,6 @@
 // The tests that a load begins with: 9 to 12 of 01 "Why a tank is turned back".
+#![tactic(auto)]
+
 ghost use Rattle.std.specs.Prelude.{◌≡◌, Bool, true, false, cond, ◌&&◌, List, [], ℕ, ◌+◌, ◌-◌, ◌*◌, ◌/◌, ◌≤◌, ◌<◌, leb, ℤ, pos, negsuc, nat_abs, length, get_or};
 ghost use Rattle.frame.specs.Frame.{no_source};
 ghost use Rattle.store.specs.Store.{Store, vec, with_traj};
@@ -17,7 +19,7 @@ use levels::Mv;
 use tile::Tile;
 
 // What a load answers.
-#[derive(Drop)]
+#[derive(Clone, Copy)]
 pub enum LoadAnswer {
     Loaded,
     // Refusal 9: a number of the setup out of range.

@@ -1,4 +1,6 @@
 // One source's entries.
+#![tactic(auto)]
+
 ghost use Rattle.std.specs.Prelude.{◌≡◌, ◌≤◌, ◌<◌, nat_abs};
 ghost use Rattle.mv.specs.Projection.{reciprocals};
 ghost use Rattle.entry.specs.Entry.{found, found_slot, ratio_z, ref2ref_of, ref2idx_of, part_of, factors_of, source_of};
@@ -124,7 +126,7 @@ fn factors(cur: i32, ref2ref: [i8; 7], rest: bool, table: &[u16; 32]) -> [i32; 7
 }
 
 #[repr(C)]
-#[derive(Drop)]
+#[derive(Clone, Copy)]
 pub struct Source {
     pub reference: Slot,
     pub tgt: i8,

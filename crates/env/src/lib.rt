@@ -1,11 +1,13 @@
 // The difference of two order hints, from env.rs.
+#![tactic(auto)]
+
 ghost use Rattle.std.specs.Prelude.{◌≡◌, ◌≤◌};
 ghost use Rattle.env.specs.Hints.{hint_diff, poc_diff, says_diff};
 
 use levels::OrderHint;
 
 // What get_poc_diff answers.
-#[derive(Drop)]
+#[derive(Clone, Copy)]
 pub enum PocDiff {
     Diff(i32),
     // Refusal 3: hint bits above 8.

@@ -1,4 +1,6 @@
 // The copy of the rows above, emptying and tip_projection, and what the field's other passes share.
+#![tactic(auto)]
+
 ghost use Rattle.std.specs.Prelude.{◌≡◌, ◌+◌, ◌*◌, ◌≤◌, ◌<◌, pos, length};
 ghost use Rattle.levels.specs.declared.Mv.{Mv};
 ghost use Rattle.mv.specs.Projection.{reciprocals};

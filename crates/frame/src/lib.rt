@@ -1,4 +1,6 @@
 // The setup of a frame: init_frame.
+#![tactic(auto)]
+
 ghost use Rattle.std.specs.Prelude.{◌≡◌, ◌≤◌, ◌<◌, ◌+◌, ◌*◌};
 ghost use Rattle.mv.specs.Projection.{reciprocals};
 ghost use Rattle.picks.specs.Picks.{Slots};
@@ -143,7 +145,7 @@ fn pick_sources(
 
 // The sources, and the mask of the slots that are used.
 #[repr(C)]
-#[derive(Drop)]
+#[derive(Clone, Copy)]
 pub struct Sources {
     pub mfmv: [Source; 4],
     pub n_mfmvs: usize,
@@ -152,7 +154,7 @@ pub struct Sources {
 
 // The frame's own pair of references: their distance, and a factor for each.
 #[repr(C)]
-#[derive(Drop)]
+#[derive(Clone, Copy)]
 pub struct Tip {
     pub delta: i8,
     pub sf0: i32,
@@ -160,7 +162,7 @@ pub struct Tip {
 }
 
 // The values of the sequence's and the frame's header that a setup is made of.
-#[derive(Drop)]
+#[derive(Clone, Copy)]
 pub struct Header {
     pub width: u32,
     pub height: u32,
@@ -182,7 +184,7 @@ pub struct Header {
 
 // The setup record.
 #[repr(C)]
-#[derive(Drop)]
+#[derive(Clone, Copy)]
 pub struct Frame {
     pub width: u32,
     pub height: u32,
@@ -204,7 +206,7 @@ pub struct Frame {
 }
 
 // What init_frame answers of a header.
-#[derive(Drop)]
+#[derive(Clone, Copy)]
 pub enum Said {
     Accepted,
     // Refusal 3: hint bits above 8.
@@ -222,7 +224,7 @@ pub enum Said {
 }
 
 // The answer, and the record beside it: zeros where the header is refused.
-#[derive(Drop)]
+#[derive(Clone, Copy)]
 pub struct Setup {
     pub said: Said,
     pub frame: Frame,

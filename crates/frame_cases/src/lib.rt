@@ -1,5 +1,7 @@
 // The kind `frame`: the header of a line's first numbers, and the numbers of the record that
 // init_frame makes of it, fields and elements in the order of include/refmvs.h.
+#![tactic(auto)]
+
 ghost use Rattle.std.specs.Prelude.{◌≡◌, ◌+◌, ◌≤◌, pos, length};
 ghost use Rattle.cases.specs.Verdicts.{WhenTrue, WhenAgrees};
 ghost use Rattle.cases.specs.Numbers.{at, Bytes};

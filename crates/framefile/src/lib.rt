@@ -1,4 +1,6 @@
 // A frame file's bytes (docs/FRAME_FILE.md): its header, its tile columns, the rows of its planes.
+#![tactic(auto)]
+
 ghost use Rattle.std.specs.Prelude.{cond, ◌≡◌, ◌+◌, ◌*◌, ◌≤◌, ◌<◌, length, take};
 ghost use Rattle.framefile.specs.File.{is_on, word_at, hints_at, saved_at, all_saved, switches_at, present_of, pocs_of, header_of, is_frame_file, end_at, ends_of, present_before, plane_at, put_row, put_plane, put_present, put_planes};
 

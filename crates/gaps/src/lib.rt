@@ -1,4 +1,6 @@
 // Gap filling of the field: fill_gap_proj of refmvs.rs.
+#![tactic(auto)]
+
 ghost use Rattle.std.specs.Prelude.{◌≡◌, true, false, ◌+◌, ◌≤◌};
 ghost use Rattle.levels.specs.declared.Mv.{Mv};
 ghost use Rattle.mv.specs.Projection.{reciprocals};
@@ -16,7 +18,7 @@ use mv::Sum;
 use tile::Tile;
 
 // A mean, and a sum for the mean of more cells.
-#[derive(Drop)]
+#[derive(Clone, Copy)]
 struct Around {
     mean: Mv,
     sum: Sum,

@@ -1,4 +1,6 @@
 // Hole filling: fill_holes of refmvs.rs.
+#![tactic(auto)]
+
 ghost use Rattle.std.specs.Prelude.{◌≡◌, true, ◌+◌};
 ghost use Rattle.levels.specs.declared.Mv.{Mv};
 ghost use Rattle.store.specs.Store.{Store, with_field};

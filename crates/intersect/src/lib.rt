@@ -1,4 +1,6 @@
 // Trajectories carried on from one slot to another where they meet (check_traj_intersect), and the ends of trajectories in the maps.
+#![tactic(auto)]
+
 ghost use Rattle.std.specs.Prelude.{◌≡◌, true, ◌+◌, ◌-◌, ◌/◌, ◌≤◌, ◌<◌, ◌^◌, pos, neg_ℤ, ◌+ℤ◌, ◌-ℤ◌, length, get_or};
 ghost use Rattle.intops.specs.Choice.{clip_z};
 ghost use Rattle.intops.specs.Bounds.{Within};
@@ -133,7 +135,7 @@ fn no_map(m: Mv) -> bool
 
 // One half: slot a's trajectories through (y, x), in whose windows (y0, x0) lies too, go on by mv to slot b,
 // clipped to ±bound.
-#[derive(Drop)]
+#[derive(Clone, Copy)]
 struct Half {
     bound: u16,
     a: usize,

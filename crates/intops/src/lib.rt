@@ -1,5 +1,7 @@
 // Whole-number functions of intops.rs. Their laws, and those of signed arithmetic that every crate
 // above cites, are in proofs/.
+#![tactic(auto)]
+
 ghost use Rattle.std.specs.Prelude.{◌≡◌, ◌<◌, ◌≤◌, ◌^◌, max, nat_abs};
 ghost use Rattle.intops.specs.Choice.{min_z, max_z, clip_z, with_sign};
 ghost use Rattle.intops.specs.Bounds.{Within};

@@ -1,5 +1,7 @@
 // The judge of a kept case: its lists are made of the numbers that the lines have set, and a load or
 // a pass that is lent them is judged.
+#![tactic(auto)]
+
 ghost use Rattle.std.specs.Prelude.{◌≡◌, ℕ, ◌+◌, ◌≤◌, ◌<◌, pos, length, get_or};
 ghost use Rattle.store.specs.Store.{pack};
 ghost use Rattle.cases.specs.Numbers.{at};

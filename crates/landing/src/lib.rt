@@ -1,4 +1,6 @@
 // Where a saved vector lands, and whether the field takes it there.
+#![tactic(auto)]
+
 ghost use Rattle.std.specs.Prelude.{◌≡◌, false, cond, ℕ, ◌<◌, pos, neg_ℤ, nat_abs};
 ghost use Rattle.std.specs.Int.Signed.{lt_z};
 ghost use Rattle.intops.specs.Bounds.{Within};

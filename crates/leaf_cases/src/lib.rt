@@ -1,5 +1,7 @@
 // One function for each kind of case: the library's answer to the line's inputs, against the
 // answer that the line states.
+#![tactic(auto)]
+
 ghost use Rattle.std.specs.Prelude.{◌≡◌, ◌+◌, ◌≤◌, ◌<◌, nat_abs, length};
 ghost use Rattle.levels.specs.Answer.{says};
 ghost use Rattle.env.specs.Hints.{says_diff};

@@ -1,6 +1,8 @@
 // The leaf functions as the entries for C call them: any numbers, an answer that is the refusal's
 // number of 01 (0 for none), and a buffer that the caller lends for the result. A refused call leaves
 // the buffer as it was.
+#![tactic(auto)]
+
 ghost use Rattle.levels.specs.Answer.{says};
 ghost use Rattle.mv.specs.Projection.{mv_projection, scale_mv};
 ghost use Rattle.mv.specs.Packing.{packed, unpacked};

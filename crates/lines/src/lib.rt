@@ -1,6 +1,8 @@
 // Lines of a word and decimal numbers, one space between two. `#` starts a comment line; empty
 // lines are passed over. The reader is a machine that takes one byte at a time: its state is small
 // and goes by value; what was read, the line's word and its numbers lie in lent buffers.
+#![tactic(auto)]
+
 ghost use Rattle.std.specs.Prelude.{◌≡◌, ◌-◌, ◌^◌, ◌≤◌, min, length};
 ghost use Rattle.io.specs.Counts.{IsPrefixLen};
 ghost use Rattle.lines.specs.Line.{is_letter, is_digit, finds, bytes, one_more, before, next_line, push_letter, start_step, word_step, push_digit, number_step, value_of, end_number, end_line, digits_step, comment_step, reader, step, steps, end_input, ReadSome, Reads, put_in, is_last};
@@ -30,7 +32,7 @@ const DIGITS: usize = 3;
 const COMMENT: usize = 4;
 
 // Fields of one width: a state with bytes in it is copied in pieces, at a fifth of the speed.
-#[derive(Drop)]
+#[derive(Clone, Copy)]
 pub struct State {
     pub found: usize,
     // Counted from 1.
@@ -48,7 +50,7 @@ pub struct State {
 }
 
 // A number that was read, if it fits.
-#[derive(Drop)]
+#[derive(Clone, Copy)]
 enum Value {
     Is(i64),
     TooLarge,

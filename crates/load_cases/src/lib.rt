@@ -1,5 +1,7 @@
 // The judge of a kept load: a call with a setup, lent the seven lists of a store and the planes,
 // against the answer that its line states and the lists that are wanted.
+#![tactic(auto)]
+
 ghost use Rattle.std.specs.Prelude.{◌≡◌, true, ◌+◌, ◌≤◌, pos, length};
 ghost use Rattle.store.specs.Store.{pack};
 ghost use Rattle.store.specs.Calls.{called};
@@ -31,7 +33,7 @@ pub const MAP_X: usize = 42002;
 pub const PLANES: usize = 63512;
 
 // What a line asks of a load besides its setup.
-#[derive(Drop)]
+#[derive(Clone, Copy)]
 pub struct Asked {
     pub whole_frame: bool,
     pub traj: bool,

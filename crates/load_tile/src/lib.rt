@@ -1,4 +1,6 @@
 // The passes of a load in their order.
+#![tactic(auto)]
+
 ghost use Rattle.std.specs.Prelude.{◌≡◌, false, ◌*◌, ◌≤◌, length};
 ghost use Rattle.store.specs.Store.{pack};
 ghost use Rattle.store.specs.Program.{run};

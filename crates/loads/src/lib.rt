@@ -1,4 +1,6 @@
 // Every tile of a frame, loaded in whole-frame mode: rows from the top, in a row from left to right.
+#![tactic(auto)]
+
 ghost use Rattle.std.specs.Prelude.{◌≡◌, true, ◌≤◌};
 ghost use Rattle.store.specs.Store.{pack};
 ghost use Rattle.checks.specs.Answer.{number_of};

@@ -1,1 +1,2 @@
 // Loops as folds: definitions in specs/, their laws in proofs/. There is no code here.
+#![tactic(auto)]

@@ -1,5 +1,7 @@
 // Projection, scaling and packing of motion vectors, and the averages of the field's passes: the
 // leaves of refmvs.rs.
+#![tactic(auto)]
+
 ghost use Rattle.std.specs.Prelude.{◌≡◌, false, cond, ◌+◌, ◌<◌, ◌≤◌, ◌/◌, ◌^◌, pos, nat_abs, ◌+ℤ◌, ◌*ℤ◌};
 ghost use Rattle.intops.specs.Choice.{with_sign};
 ghost use Rattle.intops.specs.Bounds.{Within};
@@ -165,7 +167,7 @@ pub fn dequantize_mv(mv: QMv) -> MvAnswer
 }
 
 // A sum of cells that are not empty, and how many there are.
-#[derive(Drop)]
+#[derive(Clone, Copy)]
 pub struct Sum {
     pub y: i64,
     pub x: i64,

@@ -1,5 +1,7 @@
 // The judge of a kept pass: one pass of a load on the tile of a call, lent the seven lists of a store,
 // against the lists that are wanted.
+#![tactic(auto)]
+
 ghost use Rattle.std.specs.Prelude.{◌≡◌, false, ◌*◌, ◌≤◌, ◌<◌, nat_abs, length};
 ghost use Rattle.store.specs.Store.{Store, pack, with_field, with_traj};
 ghost use Rattle.store.specs.Program.{run};

@@ -1,5 +1,7 @@
 // The passes of a load, one entry each, for the comparison with the Rust and for timing alone: they are no part of the library.
 // An entry is lent what its pass requires; only `load_tmvs` tests that, and the oracle lends nothing else.
+#![tactic(auto)]
+
 ghost use Rattle.std.specs.Prelude.{◌≡◌, Bool, true, false, not, ◌&&◌, List, ◌+◌, ◌*◌, ◌≤◌, ◌<◌, negsuc, length, get_or};
 ghost use Rattle.intops.specs.Choice.{eq_z};
 ghost use Rattle.intops.specs.Bounds.{Within};

@@ -1,4 +1,6 @@
 // The picking of the sources.
+#![tactic(auto)]
+
 ghost use Rattle.std.specs.Prelude.{◌≡◌, ◌+◌, ◌≤◌, ◌<◌};
 ghost use Rattle.picks.specs.Hints.{saved_diff_of, same_side, closer_of, closest_of, on_side_of, some_on_side_of};
 ghost use Rattle.picks.specs.Picks.{Valid, Slots, offered, with_side, earlier, later, nearer_earlier, in_turn, neighbours, nth_earlier, nearest, both_ways, rest};
@@ -7,13 +9,13 @@ use levels::{OrderHint, Slot};
 
 // The hints that were saved with a slot: its references', and how many those are.
 #[repr(C)]
-#[derive(Drop)]
+#[derive(Clone, Copy)]
 pub struct Saved {
     pub ref_poc: [OrderHint; 7],
     pub refcnt: u8,
 }
 
-#[derive(Drop)]
+#[derive(Clone, Copy)]
 pub struct Pocs {
     pub nbits: u32,
     pub poc: OrderHint,
@@ -84,13 +86,13 @@ fn some_on_side(nbits: u32, a: OrderHint, s: Saved, late: bool) -> bool
 }
 
 // What may be picked.
-#[derive(Drop)]
+#[derive(Clone, Copy)]
 pub enum Candidate {
     Nothing,
     At(Slot),
 }
 
-#[derive(Drop)]
+#[derive(Clone, Copy)]
 pub struct MfmvRef {
     pub reference: Slot,
     pub tgt: i8,
@@ -98,7 +100,7 @@ pub struct MfmvRef {
 }
 
 // The sources so far, and which of a slot's two directions are taken: 2 * slot + direction.
-#[derive(Drop)]
+#[derive(Clone, Copy)]
 pub struct Picks {
     pub list: [MfmvRef; 4],
     pub count: usize,

@@ -1,4 +1,6 @@
 // What a vector leaves where it lands: a field cell, trajectories, their ends in the maps.
+#![tactic(auto)]
+
 ghost use Rattle.std.specs.Prelude.{◌≡◌, true, false, ℕ, ◌+◌, ◌/◌, ◌<◌, nat_abs};
 ghost use Rattle.intops.specs.Bounds.{Within};
 ghost use Rattle.mv.specs.Projection.{past_range};

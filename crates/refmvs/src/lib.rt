@@ -1,6 +1,8 @@
 // The library as C and Rust call it. Each entry takes any numbers, answers the refusal's number of
 // 01 (0 for none), and writes its result into a buffer that the caller lends. A refused call leaves
 // the buffer as it was. The setup is handed over and given back by value.
+#![tactic(auto)]
+
 ghost use Rattle.mv.specs.Projection.{mv_projection, scale_mv};
 ghost use Rattle.mv.specs.Packing.{packed, unpacked};
 ghost use Rattle.env.specs.Hints.{poc_diff};

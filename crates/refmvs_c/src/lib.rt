@@ -99,5 +99,22 @@ pub extern "C" fn refmvs_load_tmvs(
         × (pack field_y.new field_x.new field_ref.new traj_y.new traj_x.new map_y.new map_x.new
         ≡ called answer load c s) }
 {
-    refmvs::refmvs_load_tmvs(field_y, field_x, field_ref, traj_y, traj_x, map_y, map_x, planes, setup, whole_frame, traj, holes, col_start, col_end, row_start, row_end)
+    refmvs::refmvs_load_tmvs(
+        field_y,
+        field_x,
+        field_ref,
+        traj_y,
+        traj_x,
+        map_y,
+        map_x,
+        planes,
+        setup,
+        whole_frame,
+        traj,
+        holes,
+        col_start,
+        col_end,
+        row_start,
+        row_end,
+    )
 }

@@ -1,5 +1,7 @@
 // What the setup keeps of each slot in use: sign, clipped difference, flip mask, and the links that
 // the dependency order follows.
+#![tactic(auto)]
+
 ghost use Rattle.std.specs.Prelude.{◌≡◌, ◌≤◌, ◌<◌, pos, nat_abs};
 ghost use Rattle.std.specs.Int.Signed.{lt_z};
 ghost use Rattle.env.specs.Hints.{hint_diff};

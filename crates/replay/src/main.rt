@@ -11,6 +11,8 @@
 //     frame HEADER REFUSAL RECORD (83 and 171 numbers: frame_cases)
 //
 // Ends at the first case that differs, or that cannot be read.
+#![tactic(auto)]
+
 ghost use Rattle.std.specs.Prelude.{◌≡◌, ◌+◌, ◌≤◌, length, take, if◌then◌else◌, ◌≢◌, nat_eq};
 ghost use Rattle.text.specs.Put.{Put};
 ghost use Rattle.lines.specs.Line.{counted_up, no_tallies};
@@ -123,7 +125,7 @@ fn print_end(last: Turn, word: &[u8], tallies: &[u64])
 }
 
 // A turn's receipt: how many turns may follow, what the reader found, and how it has ended the run.
-#[derive(Drop)]
+#[derive(Clone, Copy)]
 pub struct Turn {
     pub left: u64,
     pub state: State,

@@ -14,6 +14,8 @@
 //
 // Lists 0 to 6 are the store's seven, 7 the planes. Ends at the first load or pass that differs, or at
 // a line that cannot stand where it is.
+#![tactic(auto)]
+
 ghost use Rattle.std.specs.Prelude.{◌≡◌, length};
 ghost use Rattle.lines.specs.Line.{no_tallies, is_last};
 ghost use Rattle.replay_loads.specs.Words.{Numbered};
@@ -222,7 +224,7 @@ fn take_line(
 }
 
 // A turn's receipt: how many turns may follow, what the reader found, and what the lines have said so far.
-#[derive(Drop)]
+#[derive(Clone, Copy)]
 pub struct Turn {
     pub left: u64,
     pub state: State,

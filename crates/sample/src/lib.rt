@@ -1,4 +1,6 @@
 // A sampled block: trajectories through it go on, and its vector is projected.
+#![tactic(auto)]
+
 ghost use Rattle.std.specs.Prelude.{◌≡◌, true, false, not, ◌&&◌, List, ℕ, ◌-◌, ◌*◌, ◌≤◌, ◌<◌, ℤ, pos, negsuc, nat_abs, length};
 ghost use Rattle.intops.specs.Bounds.{Within};
 ghost use Rattle.intops.specs.Choice.{eq_z};

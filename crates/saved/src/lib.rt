@@ -1,4 +1,6 @@
 // A saved block: where its six bytes begin, and what they say in a direction.
+#![tactic(auto)]
+
 ghost use Rattle.std.specs.Prelude.{◌≡◌, true, ◌+◌, ◌≤◌, ◌<◌, length};
 ghost use Rattle.tile.specs.Sound.{Sound};
 ghost use Rattle.project.specs.Project.{saved_at, saved_ref, saved_mv};
@@ -9,7 +11,7 @@ use levels::Mv;
 use tile::Tile;
 
 // A saved block in one direction: its reference and its vector, where it has both.
-#[derive(Drop)]
+#[derive(Clone, Copy)]
 pub enum Saved {
     Nothing,
     Block(usize, Mv),

@@ -1,4 +1,6 @@
 // A field as text and as a picture (docs/FRAME_FILE.md): the line of a cell, the colour of a pixel, rows of both.
+#![tactic(auto)]
+
 ghost use Rattle.std.specs.Prelude.{◌≡◌, ◌+◌, ◌*◌, ◌/◌, ◌%◌, ◌≤◌, ◌<◌, length};
 ghost use Rattle.text.specs.Put.{Put};
 ghost use Rattle.show.specs.Text.{place_text, vector_text, cell_line, row_text};
@@ -59,7 +61,7 @@ pub fn put_row_text(
     at
 }
 
-#[derive(Drop)]
+#[derive(Clone, Copy)]
 pub struct Colour {
     pub red: u8,
     pub green: u8,

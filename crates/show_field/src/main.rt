@@ -1,6 +1,8 @@
 // Reads a frame file from standard input, loads the frame's motion field, and writes it to standard
 // output: as text, or with the argument `picture` as a picture. docs/FRAME_FILE.md has the file, the
 // text, the picture, and the lines for files that cannot be shown.
+#![tactic(auto)]
+
 mod from_file;
 mod problems;
 mod write;
@@ -14,7 +16,7 @@ use libc::STDIN_FILENO;
 use problems::Problem;
 use write::Sent;
 
-#[derive(Drop)]
+#[derive(Clone, Copy)]
 pub enum Wanted {
     Text,
     Picture,
@@ -48,7 +50,7 @@ fn asked() -> Wanted {
 }
 
 // What came of a file: its problem, and the receipt of what was written.
-#[derive(Drop)]
+#[derive(Clone, Copy)]
 pub struct Shown {
     pub problem: Problem,
     pub sent: Sent,

@@ -8,7 +8,7 @@ use frame::Said;
 use libc::STDERR_FILENO;
 use text::Written;
 
-#[derive(Drop)]
+#[derive(Clone, Copy)]
 pub enum Problem {
     Nothing,
     Usage,

@@ -86,7 +86,7 @@ fn put_part(
 }
 
 // The receipt of what was written: how many parts were handed over, the length of the last, and whether a write failed.
-#[derive(Drop)]
+#[derive(Clone, Copy)]
 pub struct Sent {
     pub parts: usize,
     pub bytes: usize,

@@ -1,4 +1,6 @@
 // Smoothing: smoothen of refmvs.rs.
+#![tactic(auto)]
+
 ghost use Rattle.std.specs.Prelude.{◌≡◌, true, ℕ, ◌+◌, ◌*◌, ◌%◌, ◌≤◌, ◌<◌, min, length};
 ghost use Rattle.levels.specs.declared.Mv.{Mv};
 ghost use Rattle.mv.specs.Sums.{smoothed_of, Fair};

@@ -1,4 +1,6 @@
 // Projection of a source: the loop over its saved blocks in load_tmvs.
+#![tactic(auto)]
+
 ghost use Rattle.std.specs.Prelude.{◌≡◌, Bool, true, false, not, ◌&&◌, List, ℕ, ◌-◌, ◌*◌, ◌%◌, ◌≤◌, ◌<◌, ℤ, negsuc, length, get_or};
 ghost use Rattle.intops.specs.Choice.{eq_z};
 ghost use Rattle.entry.specs.declared.Source.{Source};

@@ -1,4 +1,6 @@
 // The sources of a load, each projected in its turn.
+#![tactic(auto)]
+
 ghost use Rattle.std.specs.Prelude.{◌≡◌, ◌*◌, ◌≤◌, length};
 ghost use Rattle.store.specs.Store.{pack};
 ghost use Rattle.store.specs.Program.{run};

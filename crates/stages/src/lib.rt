@@ -1,4 +1,6 @@
 // The groups of a load's passes, each under its switch.
+#![tactic(auto)]
+
 ghost use Rattle.std.specs.Prelude.{◌≡◌, false, not, ◌*◌, ◌≤◌, eqb, ltb};
 ghost use Rattle.mv.specs.Projection.{reciprocals};
 ghost use Rattle.store.specs.Store.{Store, pack, with_field, with_traj};

@@ -1,4 +1,6 @@
 // Bytes as signed numbers, and numbers and words as text: what the programs read and write.
+#![tactic(auto)]
+
 ghost use Rattle.std.specs.Prelude.{◌≡◌, ◌+◌, ◌%◌, ◌≤◌, ◌<◌, [], ◌∷◌, length};
 ghost use Rattle.text.specs.Decimal.{natural, decimal, signed_byte};
 ghost use Rattle.text.specs.Put.{Put, Places};
@@ -106,7 +108,7 @@ pub fn put_count(n: u64, out: &mut [u8], at: usize) -> usize
 
 // A write's receipt: how many bytes were handed over, and whether that failed, as io::write_all says. No contract can say what
 // goes out, so the contracts of those that write speak of their receipts.
-#[derive(Drop)]
+#[derive(Clone, Copy)]
 pub struct Written {
     pub bytes: usize,
     pub failed: bool,

@@ -1,4 +1,6 @@
 // The numbers of a load: how the store is laid out, and which tile (01's term) is loaded.
+#![tactic(auto)]
+
 ghost use Rattle.std.specs.Prelude.{◌≡◌, ◌+◌, ◌-◌, ◌*◌, ◌/◌, ◌%◌, ◌≤◌, ◌<◌, ◌^◌, min, pos, length, get_or};
 ghost use Rattle.store.specs.Store.{vec};
 ghost use Rattle.tile.specs.Layout.{row_cells, field_at, block_start, place, traj_at, map_at, on_step, near_col, same_rows, cells_of, there, moved};
@@ -10,7 +12,7 @@ use levels::Mv;
 
 // Counted in cells of 8 pixels; in brackets 01's letter, or the name in refmvs.rs.
 #[repr(C)]
-#[derive(Drop)]
+#[derive(Clone, Copy)]
 pub struct Tile {
     // A superblock's side (S), a block's (B), and how far a projection may leave its block sideways (mfmv_edge).
     pub side: usize,

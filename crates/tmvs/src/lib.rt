@@ -1,4 +1,6 @@
 // load_tmvs: the tests, then the load of a tile.
+#![tactic(auto)]
+
 ghost use Rattle.std.specs.Prelude.{◌≡◌};
 ghost use Rattle.store.specs.Store.{pack};
 ghost use Rattle.store.specs.Calls.{called};

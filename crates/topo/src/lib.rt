@@ -1,11 +1,13 @@
 // The dependency order: a slot's references are entered before the slot, depth first.
+#![tactic(auto)]
+
 ghost use Rattle.std.specs.Prelude.{◌≡◌, ◌+◌, ◌≤◌, ◌<◌};
 ghost use Rattle.topo.specs.Topo.{free, enter, ordered};
 
 use levels::{Slot, slot_index};
 
 // The slots in the order in which they were entered, where each stands (7: not entered), and how many there are.
-#[derive(Drop)]
+#[derive(Clone, Copy)]
 pub struct Order {
     pub list: [Slot; 7],
     pub place: [u8; 7],

@@ -1,4 +1,6 @@
 // The trajectories of a load: emptying them with their maps, and gap filling.
+#![tactic(auto)]
+
 ghost use Rattle.std.specs.Prelude.{◌≡◌, true, false, ◌+◌, ◌*◌, ◌≤◌, ◌<◌, pos, length, get_or};
 ghost use Rattle.mv.specs.Sums.{is_empty};
 ghost use Rattle.store.specs.Store.{Store, trajs, vec, wr, with_traj};

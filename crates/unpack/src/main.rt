@@ -1,5 +1,7 @@
 // Reads packed vectors from standard input, two signed bytes each, y first, and writes a line for
 // each: y and x, `empty`, or `refused 2`; `short` for a lone last byte.
+#![tactic(auto)]
+
 ghost use Rattle.std.specs.Prelude.{true, ◌≡◌, ◌+◌, ◌*◌, ◌%◌, ◌≤◌, ◌<◌, length, take};
 ghost use Rattle.io.specs.Counts.{IsPrefixLen};
 ghost use Rattle.mv.specs.Packing.{unpacked};
@@ -58,7 +60,7 @@ fn put_text(input: &[u8], out: &mut [u8]) -> usize
 }
 
 // A turn's receipt: how many turns may follow, how many bytes were read, and what came of writing their text.
-#[derive(Drop)]
+#[derive(Clone, Copy)]
 pub struct Turn {
     pub left: u64,
     pub read: usize,
