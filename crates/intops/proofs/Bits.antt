@@ -1,12 +1,8 @@
 -- The place of the highest one bit, and powers of two. Assumes nothing.
-use mathlib.Core.Path.{◌≡◌, refl, sym, ap, ◌∙◌}
-use Prim.Native.Nat.{ℕ, zero, suc, ◌+◌, ◌*◌, ◌-◌, ◌%◌, ◌^◌, ◌≤◌, ◌<◌}
-use native.Mathlib.Omega.{arith}
-use native.Mathlib.Nat.{mod-eq_of_lt, one-mul}
-use native.Mathlib.Decide.{dec_lt, dec_le}
-use lib.Pow.{pow_mono}
+use Rattle.std.proofs.Common.{◌≡◌, sym, ap, ◌∙◌, ℕ, zero, suc, ◌+◌, ◌*◌, ◌%◌, ◌^◌, ◌≤◌, ◌<◌, arith, mod-eq_of_lt, one-mul, pow_mono, le-leb}
+use Rattle.std.proofs.Math.Decide.{dec_lt, dec_le}
 use lib.Count.{count_leading_zeros, leading_top}
-use borrow.Author.Tests.{le-leb, lt-leb}
+use borrow.Author.Tests.{lt-leb}
 use Rattle.intops.specs.Bits.{highest_from, highest_bit}
 
 pub pow_cancel : (a b : ℕ) → 2 ^ a < 2 ^ b → a < b

@@ -1,12 +1,9 @@
 -- The laws of `round_div`. Assumes nothing.
-use mathlib.Core.Path.{◌≡◌, refl, sym, ap, ◌∙◌}
-use Prim.Native.Nat.{ℕ, zero, suc, ◌+◌, ◌*◌, ◌-◌, ◌/◌, ◌%◌, ◌^◌, ◌≤◌, ◌<◌, min}
-use lib.IntN.{ℤ, pos, negsuc, neg_ℤ, nat_abs, ◌+ℤ◌, ◌-ℤ◌, ◌*ℤ◌}
-use lib.Signed.{lt_z, shr_z, ◌≤ℤ◌}
-use native.Mathlib.Nat.{div-eq_of_lt, zero-div, div-add-mod', mod-lt, div-lt_iff_lt-mul, mul-zero, mul_comm, suc-mul}
-use native.Mathlib.Decide.{dec_lt}
-use native.Mathlib.Omega.{arith}
-use lib.Pow.{suc_ones}
+use Rattle.std.proofs.Common.{◌≡◌, refl, sym, ap, ℕ, zero, suc, ◌+◌, ◌*◌, ◌-◌, ◌/◌, ◌^◌, ◌≤◌, ◌<◌, min, ℤ, pos, negsuc, neg_ℤ, nat_abs, ◌+ℤ◌, ◌-ℤ◌, ◌*ℤ◌, div-add-mod', mod-lt, div-lt_iff_lt-mul, mul-zero, mul_comm, suc-mul, arith}
+use Rattle.std.proofs.Math.Nat.{div-eq_of_lt, zero-div}
+use Rattle.std.proofs.Math.Decide.{dec_lt}
+use Rattle.std.proofs.Math.Pow.{suc_ones}
+use lib.Signed.{lt_z, shr_z}
 use mir.Val.{bool_byte}
 use Rattle.intops.specs.Choice.{with_sign}
 use Rattle.intops.specs.Rounding.{round_div, Nearest}

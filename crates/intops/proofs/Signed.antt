@@ -1,21 +1,15 @@
 -- The bridge from ℤ to ℕ for `omega`: each z is up z − dn z, one of the two 0. Assumes nothing.
-use mathlib.Core.Path.{◌≡◌, refl, sym, ap, ◌∙◌, subst}
-use mathlib.Core.Bool.{Bool, true, false, cond}
-use Prim.Native.Nat.{ℕ, zero, suc, ◌+◌, ◌*◌, ◌-◌, ◌/◌, ◌%◌, ◌^◌, ◌≤◌, ◌<◌, max, min}
-use native.Mathlib.Omega.{arith}
-use native.Mathlib.Nat.{zero-div, zero-mod, div-eq_of_lt, add-div_right, mul-le-mul, div-le_self}
-use native.Mathlib.Numerals.{add-one}
-use lib.Dec.{T, eqb, eqb→eq, ltb, leb, ltb→lt, leb→le, nltb→le, nleb→lt, lt→ltb, le→leb}
-use lib.IntN.{ℤ, pos, negsuc, neg_ℤ, nat_abs, sub_ℕ, ◌+ℤ◌, ◌-ℤ◌, ◌*ℤ◌}
-use lib.Signed.{mag, lt_z, le_z, non_neg, quot_z, rem_z, shr_z, ◌≤ℤ◌, ◌<ℤ◌}
-use mir.Syntax.{Width, w8, w16, w32, w64, w128}
-use mir.Val.{Fits, SFits, bits, hbits, to_z, of_z, bool_byte}
-use mir.Facts.{to_z-of_z, to_z_pos, sfits_widen}
-use lib.Pow.{pow_pos, pow-lt}
-use borrow.Author.Rules.{rules}
+use Rattle.std.proofs.Common.{◌≡◌, refl, sym, ap, ◌∙◌, subst, Bool, true, false, cond, ℕ, zero, suc, ◌+◌, ◌*◌, ◌-◌, ◌/◌, ◌%◌, ◌^◌, ◌≤◌, ◌<◌, max, min, arith, mul-le-mul, div-le_self, add-one, T, eqb, eqb→eq, ltb, leb, ltb→lt, leb→le, nltb→le, lt→ltb, le→leb, ℤ, pos, negsuc, neg_ℤ, nat_abs, ◌+ℤ◌, ◌-ℤ◌, ◌*ℤ◌, ◌≤ℤ◌, ◌<ℤ◌, w8, w16, w32, w64, Fits, SFits, to_z, of_z, to_z-of_z, pow_pos, rules, ltb-true, ltb-false, leb-true, leb-false, le-leb, le-ltb, eqb-true, eq-eqb, ne_eqb}
+use Rattle.std.proofs.Math.Nat.{zero-div, zero-mod, div-eq_of_lt, add-div_right}
+use Rattle.std.proofs.Math.IntN.{sub_ℕ}
+use Rattle.std.proofs.Math.Facts.{to_z_pos, sfits_widen}
+use Rattle.std.proofs.Math.Pow.{pow-lt}
+use lib.Signed.{lt_z, le_z, non_neg, quot_z, rem_z, shr_z}
+use mir.Syntax.{Width, w128}
+use mir.Val.{bits, hbits, bool_byte}
+use borrow.Author.Tests.{eqb-false}
 use Rattle.intops.specs.Choice.{pick_z, eq_z, clip_z, with_sign}
 use Rattle.intops.specs.Bounds.{Within}
-use borrow.Author.Tests.{ltb-true, ltb-false, leb-true, leb-false, le-leb, le-ltb, eqb-true, eqb-false, eq-eqb, ne_eqb}
 
 abbrev pub up : ℤ → ℕ
 up (pos n) = n
@@ -249,22 +243,22 @@ fits_within w {n} {z} t h = ud_fits w z (omega (arith, ltb→lt n (2 ^ hbits w) 
 
 -- ---- what the machine reads back from a signed local's bits is the number: `simp back`, with a proof that each number fits in scope. After a cast to a wider type the narrower type's is enough
 pub back_8_16 : {z : ℤ} → SFits w8 z → to_z w16 (of_z w16 z) ≡ z
-back_8_16 f = to_z-of_z (sfits_widen {w = w8} tt f)
+back_8_16 f = to_z-of_z {w = w16} (sfits_widen {w = w8} {w' = w16} (tt {0}) f)
 
 pub back_8_32 : {z : ℤ} → SFits w8 z → to_z w32 (of_z w32 z) ≡ z
-back_8_32 f = to_z-of_z (sfits_widen {w = w8} tt f)
+back_8_32 f = to_z-of_z {w = w32} (sfits_widen {w = w8} {w' = w32} (tt {0}) f)
 
 pub back_8_64 : {z : ℤ} → SFits w8 z → to_z w64 (of_z w64 z) ≡ z
-back_8_64 f = to_z-of_z (sfits_widen {w = w8} tt f)
+back_8_64 f = to_z-of_z {w = w64} (sfits_widen {w = w8} {w' = w64} (tt {0}) f)
 
 pub back_16_32 : {z : ℤ} → SFits w16 z → to_z w32 (of_z w32 z) ≡ z
-back_16_32 f = to_z-of_z (sfits_widen {w = w16} tt f)
+back_16_32 f = to_z-of_z {w = w32} (sfits_widen {w = w16} {w' = w32} (tt {0}) f)
 
 pub back_16_64 : {z : ℤ} → SFits w16 z → to_z w64 (of_z w64 z) ≡ z
-back_16_64 f = to_z-of_z (sfits_widen {w = w16} tt f)
+back_16_64 f = to_z-of_z {w = w64} (sfits_widen {w = w16} {w' = w64} (tt {0}) f)
 
 pub back_32_64 : {z : ℤ} → SFits w32 z → to_z w64 (of_z w64 z) ≡ z
-back_32_64 f = to_z-of_z (sfits_widen {w = w32} tt f)
+back_32_64 f = to_z-of_z {w = w64} (sfits_widen {w = w32} {w' = w64} (tt {0}) f)
 
 -- an unsigned number cast to signed, where it fits
 pub back_pos : (w : Width) {n : ℕ} → SFits w (pos n) → to_z w n ≡ pos n

@@ -1,5 +1,5 @@
 -- The place of a number's highest one bit. Assumes nothing.
-use Rattle.std.specs.Prelude.{Bool, cond, ℕ, zero, suc, ◌^◌, leb}
+use Rattle.std.specs.Prelude.{cond, ℕ, zero, suc, ◌^◌, leb}
 
 -- the highest of the places k, k - 1, .., 0 whose power of two is at most m; 0 where there is none
 unfoldable pub highest_from : ℕ → ℕ → ℕ
