@@ -1,8 +1,5 @@
 -- Folds whose steps do the same within the fold's range; which numbers a loop meets. Assumes nothing.
-use mathlib.Core.Path.{◌≡◌, refl, ap, ◌∙◌}
-use Prim.Native.Nat.{ℕ, zero, suc, ◌+◌, ◌-◌, ◌*◌, ◌/◌, ◌≤◌, ◌<◌}
-use native.Mathlib.Nat.{add-mul, mul-le-mul_right, div-mul-le_self}
-use native.Mathlib.Omega.{arith}
+use Rattle.std.proofs.Common.{◌≡◌, refl, ap, ◌∙◌, ℕ, zero, suc, ◌+◌, ◌-◌, ◌*◌, ◌/◌, ◌≤◌, ◌<◌, add-mul, mul-le-mul_right, div-mul-le_self, arith}
 use Rattle.loops.specs.Over.{over, span, span_by}
 
 pub over_same : {S : Type 0} (d n p : ℕ) (f g : ℕ → S → S) → ((j : ℕ) → j < n → (s : S) → f (p + j * d) s ≡ g (p + j * d) s)

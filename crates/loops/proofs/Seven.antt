@@ -1,9 +1,5 @@
 -- Filling an array of seven, entry after entry. Assumes nothing.
-use mathlib.Core.Path.{◌≡◌, refl, ap, ◌∙◌}
-use mathlib.Core.List.{List}
-use Prim.Native.Nat.{ℕ, zero, suc, ◌+◌, ◌≤◌, ◌<◌}
-use native.Mathlib.Omega.{arith}
-use lib.ListN.{get_or, set, replicate}
+use Rattle.std.proofs.Common.{◌≡◌, refl, ap, ◌∙◌, List, ℕ, zero, suc, ◌+◌, ◌≤◌, ◌<◌, arith, get_or, set, replicate}
 use Rattle.loops.specs.Over.{over, span}
 use Rattle.loops.specs.Seven.{seven, first_seven, storing}
 use Rattle.loops.proofs.Turns.{turned, ended}

@@ -1,9 +1,5 @@
 -- Lists of slots: a store, zeros, and when a list is a permutation. Assumes nothing.
-use mathlib.Core.Path.{◌≡◌, sym, ap, ◌∙◌}
-use mathlib.Core.List.{List}
-use Prim.Native.Nat.{ℕ, zero, suc, ◌<◌, ◌≤◌}
-use lib.ListN.{length, set, replicate}
-use lib.Seq.{get_or-set_same, get_or-set_other}
+use Rattle.std.proofs.Common.{◌≡◌, sym, ap, ◌∙◌, List, ℕ, zero, suc, ◌<◌, ◌≤◌, length, set, replicate, get_or-set_same, get_or-set_other}
 use Rattle.levels.specs.declared.Slot.{Slot}
 use Rattle.levels.specs.Slots.{slot, slot_at, Permutes}
 use Rattle.loops.proofs.Counting.{Injects, onto}

@@ -1,12 +1,9 @@
 -- What a loop's needs ask of the folds: a turn, the end; the last row is within.
 -- Assumes nothing.
-use mathlib.Core.Path.{◌≡◌, sym, ap, ◌∙◌}
-use Prim.Native.Nat.{ℕ, suc, ◌+◌, ◌-◌, ◌*◌, ◌/◌, ◌<◌, ◌≤◌}
-use native.Mathlib.Omega.{arith}
-use native.Mathlib.Nat.{add-div_right, mul-le-mul_right, add-mul, div-eq_of_lt}
-use native.Mathlib.Decide.{dec_le}
-use native.Mathlib.Numerals.{add-one}
-use mathlib.Core.Logic.{dite}
+use Rattle.std.proofs.Common.{◌≡◌, sym, ap, ◌∙◌, ℕ, suc, ◌+◌, ◌-◌, ◌*◌, ◌/◌, ◌<◌, ◌≤◌, arith, mul-le-mul_right, add-mul, add-one}
+use Rattle.std.proofs.Math.Nat.{add-div_right, div-eq_of_lt}
+use Rattle.std.proofs.Math.Decide.{dec_le}
+use Rattle.std.proofs.Math.Logic.{dite}
 use Rattle.loops.specs.Over.{over, span, span_by}
 
 turns : (d b p : ℕ) → 0 < d → p < b → (b - p + (d - 1)) / d ≡ suc ((b - (p + d) + (d - 1)) / d)
