@@ -1,6 +1,6 @@
 -- The laws of `hint_diff`. Assumes nothing.
-use Rattle.std.proofs.Common.{◌≡◌, ℕ, zero, suc, ◌+◌, ◌-◌, ◌*◌, ◌/◌, ◌%◌, ◌^◌, ◌<◌, ◌≤◌, ℤ, pos, negsuc, ◌-ℤ◌, sym, refl, ap, ◌∙◌, mod-lt, div-lt_iff_lt-mul, div-add-mod', arith, pow_pos, pow-add}
-use lib.Arith.{digits_mod}
+use Rattle.std.proofs.Common.{◌≡◌, ℕ, ◌+◌, ◌-◌, ◌*◌, ◌/◌, ◌%◌, ◌^◌, ◌<◌, ◌≤◌, ℤ, pos, negsuc, ◌-ℤ◌, sym, ap, ◌∙◌, mod-lt, div-lt_iff_lt-mul, div-add-mod', arith, pow_pos, pow-add}
+use Rattle.std.proofs.Math.Arith.{digits_mod}
 use Rattle.levels.specs.declared.OrderHint.{OrderHint}
 use Rattle.env.specs.Hints.{mod_z, centred, hint_diff}
 use Rattle.intops.proofs.Signed.{up, dn, ud_minus}
