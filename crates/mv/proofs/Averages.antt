@@ -1,12 +1,5 @@
 -- The laws of the averages, and the theorems that specs/Averages.antt states. Assumes nothing.
-use mathlib.Core.Path.{◌≡◌, refl, sym, ap, ◌∙◌}
-use Prim.Native.Nat.{ℕ, zero, suc, ◌+◌, ◌*◌, ◌-◌, ◌/◌, ◌^◌, ◌≤◌, ◌<◌}
-use native.Mathlib.Omega.{arith}
-use native.Mathlib.Nat.{mul-le-mul, mul_comm, mul_assoc, mul-zero, div-mul-le_self}
-use lib.Pow.{pow_mono, pow_pos}
-use lib.IntN.{ℤ, pos, negsuc, neg_ℤ, nat_abs, ◌+ℤ◌, ◌-ℤ◌, ◌*ℤ◌}
-use mir.Syntax.{w32, w64}
-use mir.Val.{SFits}
+use Rattle.std.proofs.Common.{◌≡◌, ap, ◌∙◌, ℕ, zero, suc, ◌+◌, ◌*◌, ◌-◌, ◌/◌, ◌^◌, ◌≤◌, ◌<◌, arith, mul-le-mul, mul_comm, mul_assoc, mul-zero, div-mul-le_self, pow_mono, pow_pos, ℤ, pos, negsuc, neg_ℤ, nat_abs, ◌+ℤ◌, ◌-ℤ◌, ◌*ℤ◌, w32, w64, SFits}
 use Rattle.intops.specs.Bounds.{Within}
 use Rattle.intops.specs.Rounding.{round_div, Nearest}
 use Rattle.intops.proofs.Signed.{signed, signed!, up, dn, ud, ud_neg, ud_add, ud_minus, ud_mul}

@@ -1,26 +1,15 @@
 -- The laws of packing and unpacking, and the theorems that specs/Packing.antt states. Assumes nothing.
-use mathlib.Core.Path.{◌≡◌, refl, sym, ap, ◌∙◌}
-use mathlib.Core.Bool.{Bool, true, false}
-use Prim.Native.Nat.{ℕ, zero, suc, ◌+◌, ◌*◌, ◌-◌, ◌/◌, ◌^◌, ◌≤◌, ◌<◌, max}
-use native.Mathlib.Omega.{arith}
-use native.Mathlib.Nat.{div-lt_iff_lt-mul, le-div_iff_mul-le, div-mul-le_self, div-one, mul-le-mul, add-mul-div_right, max-eq_left}
-use native.Mathlib.Decide.{dec_lt}
-use lib.Dec.{T, ltb, leb, eqb, eqb→eq}
-use lib.IntN.{ℤ, pos, negsuc, nat_abs}
-use lib.Signed.{◌≤ℤ◌}
-use mir.Syntax.{w8}
-use mir.Val.{SFits}
-use lib.Pow.{pow_mono, pow_pos, pow-add}
-use borrow.Author.Tests.{lt-ltb, le-ltb, lt-leb, eq-eqb, ne_eqb, eqb-false}
+use Rattle.std.proofs.Common.{◌≡◌, refl, sym, ap, ◌∙◌, Bool, true, false, ℕ, zero, suc, ◌+◌, ◌*◌, ◌-◌, ◌/◌, ◌^◌, ◌≤◌, ◌<◌, max, arith, div-lt_iff_lt-mul, le-div_iff_mul-le, div-mul-le_self, div-one, mul-le-mul, eqb, eqb→eq, ℤ, pos, negsuc, nat_abs, ◌≤ℤ◌, w8, SFits, pow_mono, pow_pos, pow-add, lt-ltb, le-ltb, eq-eqb, ne_eqb}
+use Rattle.std.proofs.Math.Nat.{add-mul-div_right, max-eq_left}
+use Rattle.std.proofs.Math.Decide.{dec_lt}
+use borrow.Author.Tests.{lt-leb, eqb-false}
 use Rattle.intops.specs.Choice.{with_sign}
-use Rattle.intops.proofs.Signed.{signed!, ud, abs_sign, eq_z→eq, eq_z-true}
-use Rattle.levels.specs.declared.Mv.{Mv}
+use Rattle.intops.proofs.Signed.{signed!, ud, abs_sign, eq_z-true}
 use Rattle.levels.specs.declared.QMv.{QMv}
-use Rattle.levels.specs.Vector.{empty, mark}
 use Rattle.intops.specs.Bits.{highest_bit, highest_from}
 use Rattle.intops.proofs.Table.{below}
 use Rattle.intops.proofs.Bits.{top, highest_is, pow_cancel}
-use Rattle.mv.specs.Packing.{pack_code, code_at, first_with, unpack_mag, packed, is_mark_byte, unpacked, Bytes, Least, UnpacksLeast, PacksBack, NeverMark}
+use Rattle.mv.specs.Packing.{pack_code, code_at, first_with, unpack_mag, packed, is_mark_byte, unpacked, Bytes, UnpacksLeast, PacksBack, NeverMark}
 
 -- the shift of a magnitude, and its code by it, without a case for magnitudes below 32
 pub record Shift (m : ℕ) : Type 0 where

@@ -1,10 +1,5 @@
 -- The laws of projection. Assumes nothing.
-use mathlib.Core.Path.{◌≡◌, refl}
-use Prim.Native.Nat.{ℕ, zero, suc, ◌+◌, ◌≤◌, ◌<◌}
-use native.Mathlib.Nat.{div-le_self, add-zero, zero-add}
-use native.Mathlib.Omega.{arith}
-use lib.ListN.{get_or}
-use lib.IntN.{ℤ, pos, negsuc, nat_abs}
+use Rattle.std.proofs.Common.{◌≡◌, ℕ, zero, suc, ◌+◌, ◌≤◌, ◌<◌, div-le_self, add-zero, zero-add, arith, get_or, ℤ, pos, negsuc, nat_abs}
 use Rattle.intops.specs.Bounds.{Within}
 use Rattle.intops.specs.Choice.{clip_z}
 use Rattle.intops.proofs.Signed.{mul_within, clip_abs}

@@ -1,6 +1,5 @@
 -- The laws of sums of cells. Assumes nothing.
-use mathlib.Core.Path.{◌≡◌}
-use mathlib.Core.Bool.{false}
+use Rattle.std.proofs.Common.{◌≡◌, false}
 use Rattle.intops.proofs.Signed.{none_plus}
 use Rattle.levels.specs.declared.Mv.{Mv}
 use Rattle.mv.specs.Sums.{is_empty, no_sum, added, gap_of}

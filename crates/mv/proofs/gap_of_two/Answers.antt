@@ -1,17 +1,11 @@
 -- `mv::gap_of_two` meets its contract. Assumes nothing.
-use borrow.Author.Rules.{rules}
-use mathlib.Core.Path.{◌≡◌, refl, ap, ◌∙◌}
-use mathlib.Core.Bool.{Bool, true, false, cond}
-use lib.IntN.{◌+ℤ◌}
-use mir.Syntax.{w32}
-use mir.Val.{SFits}
+use Rattle.std.proofs.Common.{rules, ◌≡◌, refl, ap, ◌∙◌, Bool, true, false, cond, ◌+ℤ◌, w32, SFits}
 use Rattle.intops.proofs.Signed.{back, none_plus}
 use Rattle.levels.specs.declared.Mv.{Mv}
 use Rattle.mv.specs.Averages.{gap_mean}
 use Rattle.mv.specs.Sums.{is_empty, no_sum, added, gap_of}
 use Rattle.mv.proofs.Averages.{gap_twice}
-use Rattle.mv.proofs.gap_of_two.Statement.{statement}
-use Rattle.mv.proofs.gap_of_two.Tie as tie
+use Rattle.mv.proofs.gap_of_two.Goals as goal
 
 -- with e for the test, by cases
 two : (v a : Mv) (e : Bool) → is_empty v ≡ false → is_empty a ≡ e
@@ -19,24 +13,11 @@ two : (v a : Mv) (e : Bool) → is_empty v ≡ false → is_empty a ≡ e
 two v a true f h = rw (h, f, gap_twice v.y, gap_twice v.x)
 two v a false f h = rw (h, f, none_plus v.y, none_plus v.x)
 
-or-else-requires : tie.Need-or-else-requires
-or-else-requires c κs = search rules
-
-mean-of-two-requires : tie.Need-mean-of-two-requires
-mean-of-two-requires c κs = search rules
-
-mean-of-two-requires-2 : tie.Need-mean-of-two-requires-2
-mean-of-two-requires-2 c κs = search rules
-
-returns : tie.Need-returns
+pub returns : goal.returns
 returns c =
-    let s = c.before.before.before.before.before.before.before in let a = s.args in let o = c.before.before.before.before.before.before.or_else in let k = c.before.before.before.mean_of_two in let l = c.mean_of_two2 in let b = cond (is_empty a.a) a.v a.a in
+    let a = c.args in let o = c.or_else-b in let k = c.mean_of_two-y in let l = c.mean_of_two-x in let b = cond (is_empty a.a) a.v a.a in
     let vy : SFits w32 a.v.y = search rules in let vx : SFits w32 a.v.x = search rules in let oy : SFits w32 o.result.y = search rules in let ox : SFits w32 o.result.x = search rules in
     let ky : SFits w32 k.result = search rules in let lx : SFits w32 l.result = search rules in
     let y : k.result ≡ gap_mean 2 (a.v.y +ℤ b.y) = simp back at k.ensures ∙ ap (λ (b : Mv). gap_mean 2 (a.v.y +ℤ b.y)) o.ensures in
     let x : l.result ≡ gap_mean 2 (a.v.x +ℤ b.x) = simp back at l.ensures ∙ ap (λ (b : Mv). gap_mean 2 (a.v.x +ℤ b.x)) o.ensures in
-    simp back (rw (y, x) (two a.v a.a (is_empty a.a) s.requires refl))
-
-pub gap_of_two_spec : {M : Type 1} → statement M
-gap_of_two_spec =
-    tie.close (tie.spec or-else-requires mean-of-two-requires mean-of-two-requires-2 returns)
+    simp back (rw (y, x) (two a.v a.a (is_empty a.a) c.requires refl))
