@@ -1,13 +1,5 @@
 -- Entering a slot: what it keeps, and that a depth of the slots not yet entered is deep enough. Assumes nothing.
-use mathlib.Core.Path.{◌≡◌, refl, sym, ap, ◌∙◌}
-use mathlib.Core.Bool.{Bool, true, false, cond}
-use mathlib.Core.List.{List, [], ◌∷◌}
-use Prim.Native.Nat.{ℕ, zero, suc, ◌+◌, ◌-◌, ◌<◌, ◌≤◌}
-use native.Mathlib.Nat.{le_of_suc-le-suc}
-use native.Mathlib.Omega.{arith}
-use lib.Dec.{ltb, eqb}
-use lib.ListN.{length, get_or, set, length-set}
-use borrow.Author.Tests.{ltb-true, eqb-true, ne_eqb, eq-eqb, lt-ltb, le-ltb}
+use Rattle.std.proofs.Common.{◌≡◌, refl, sym, ap, ◌∙◌, Bool, true, false, cond, List, [], ◌∷◌, ℕ, zero, suc, ◌+◌, ◌-◌, ◌<◌, ◌≤◌, le_of_suc-le-suc, arith, ltb, eqb, length, get_or, set, length-set, ltb-true, eqb-true, ne_eqb, eq-eqb, lt-ltb, le-ltb}
 use mir.Val.{bool_byte}
 use Rattle.loops.specs.Over.{over, span}
 use Rattle.loops.proofs.Keeps.{span_in}

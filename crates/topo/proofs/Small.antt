@@ -1,12 +1,5 @@
 -- The order's places and slots are in range. Assumes nothing.
-use mathlib.Core.Path.{◌≡◌, refl}
-use mathlib.Core.Bool.{Bool, true, false, cond}
-use mathlib.Core.List.{List}
-use Prim.Native.Nat.{ℕ, zero, suc, ◌<◌, ◌≤◌}
-use native.Mathlib.Omega.{arith}
-use lib.Dec.{ltb, eqb}
-use lib.ListN.{get_or}
-use borrow.Author.Tests.{ltb-true}
+use Rattle.std.proofs.Common.{◌≡◌, refl, Bool, true, false, cond, List, ℕ, zero, suc, ◌<◌, ◌≤◌, arith, ltb, eqb, get_or, ltb-true}
 use Rattle.loops.specs.Over.{span}
 use Rattle.loops.proofs.Keeps.{set_has, span_in}
 use Rattle.loops.proofs.Slots.{zeros}

@@ -1,0 +1,22 @@
+-- `topo::topo_order` meets its contract. Assumes nothing.
+use Rattle.std.proofs.Common.{arith, refl}
+use Rattle.loops.proofs.Turns.{turned, ended}
+use Rattle.topo.specs.Topo.{enter, ordered}
+use Rattle.topo.proofs.Laws.{grown, grown_room, none_room}
+use Rattle.topo.proofs.topo_order.Goals as goal
+
+pub loop-i-init : goal.loop-i-init
+unfolding ordered
+loop-i-init c = (omega arith, none_room, refl)
+
+pub loop-i-preserved : goal.loop-i-preserved
+loop-i-preserved c =
+    let l = c.loop-i in let a = c.args in let k = c.topo_insert-o in
+    let h = c.loop-i-test.true in (
+      omega arith,
+      rw k.ensures (grown_room (grown 7 a.links l.i l.o (omega arith) l.invariant.1) l.invariant.1),
+      turned (enter 7 a.links) a.n l.i l.o _ _ h k.ensures l.invariant.2,
+    )
+
+pub returns : goal.returns
+returns c = ended (enter 7 c.args.links) _ _ _ _ c.loop-i-test.false c.loop-i.invariant.2
