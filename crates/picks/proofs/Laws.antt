@@ -1,11 +1,5 @@
 -- What is picked is a slot. Assumes nothing.
-use mathlib.Core.Path.{◌≡◌, refl}
-use mathlib.Core.Bool.{Bool, true, false, cond}
-use Prim.Native.Nat.{ℕ, ◌+◌, ◌-◌, ◌<◌}
-use native.Mathlib.Omega.{arith}
-use mathlib.Core.List.{List}
-use lib.Dec.{leb, ltb}
-use lib.ListN.{get_or}
+use Rattle.std.proofs.Common.{◌≡◌, refl, Bool, true, false, cond, ℕ, ◌+◌, ◌-◌, ◌<◌, arith, List, leb, ltb, get_or}
 use denote.Enum.Declared.{tag_of}
 use Rattle.picks.specs.contracts.Candidate.{the_type}
 use Rattle.levels.specs.declared.Slot.{Slot}
