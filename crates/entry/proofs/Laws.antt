@@ -1,15 +1,6 @@
 -- The laws of the search for a hint, and of the factors. Assumes nothing.
-use mathlib.Core.Path.{◌≡◌, refl}
-use mathlib.Core.Bool.{Bool, true, false, cond}
-use mathlib.Core.List.{List}
-use Prim.Native.Nat.{ℕ, suc, ◌+◌, ◌-◌, ◌<◌, ◌≤◌}
-use native.Mathlib.Omega.{arith}
-use native.Mathlib.Nat.{mul-le-mul, div-le_self}
-use lib.Dec.{ltb}
-use lib.IntN.{ℤ, pos, negsuc, nat_abs}
+use Rattle.std.proofs.Common.{◌≡◌, refl, Bool, true, false, cond, List, ℕ, suc, ◌+◌, ◌-◌, ◌<◌, ◌≤◌, arith, mul-le-mul, div-le_self, ltb, ℤ, pos, negsuc, nat_abs, get_or, eq-eqb, ne_eqb, ltb-true}
 use lib.Signed.{lt_z}
-use lib.ListN.{get_or}
-use borrow.Author.Tests.{eq-eqb, ne_eqb, ltb-true}
 use Rattle.intops.specs.Choice.{pick_z}
 use Rattle.intops.proofs.Signed.{signed, ud}
 use Rattle.levels.specs.declared.OrderHint.{OrderHint}
