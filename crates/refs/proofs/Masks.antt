@@ -1,11 +1,5 @@
 -- The sizes of the flip mask. Assumes nothing.
-use mathlib.Core.Path.{◌≡◌}
-use mathlib.Core.Bool.{Bool, true, false}
-use mathlib.Core.List.{List}
-use Prim.Native.Nat.{ℕ, zero, suc, ◌+◌, ◌*◌, ◌-◌, ◌%◌, ◌^◌, ◌<◌, ◌≤◌}
-use native.Mathlib.Omega.{arith}
-use native.Mathlib.Nat.{mod-eq_of_lt, one-mul, zero-mul, mul-le-mul_right}
-use lib.Pow.{pow_mono, pow-add}
+use Rattle.std.proofs.Common.{◌≡◌, Bool, true, false, List, ℕ, zero, suc, ◌+◌, ◌*◌, ◌-◌, ◌%◌, ◌^◌, ◌<◌, ◌≤◌, arith, mod-eq_of_lt, one-mul, zero-mul, mul-le-mul_right, pow_mono, pow-add}
 use mir.Val.{bool_byte}
 use Rattle.loops.specs.Over.{over, span}
 use Rattle.picks.specs.declared.Pocs.{Pocs}
