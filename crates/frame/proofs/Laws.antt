@@ -1,17 +1,11 @@
 -- The leading run; that what is picked are sources in range; the straight lines of calls. Assumes nothing.
-use Rattle.env.specs.Hints.{hint_diff}
-use mathlib.Core.Path.{◌≡◌, refl}
-use mathlib.Core.Bool.{Bool, true, false, cond}
-use mathlib.Core.List.{List}
-use Prim.Native.Nat.{ℕ, zero, suc, ◌+◌, ◌*◌, ◌-◌, ◌<◌, ◌≤◌}
-use lib.Dec.{ltb, leb}
-use lib.IntN.{ℤ, pos, negsuc, nat_abs}
-use Rattle.entry.specs.Entry.{ratio_z}
+use Rattle.std.proofs.Common.{◌≡◌, refl, Bool, true, false, cond, List, ℕ, zero, suc, ◌+◌, ◌*◌, ◌-◌, ◌<◌, ◌≤◌, ltb, leb, ℤ, pos, negsuc, nat_abs, leb-false, ne_eqb, ltb-false, arith, get_or, replicate}
 use lib.Signed.{le_z, lt_z}
+use Rattle.env.specs.Hints.{hint_diff}
+use Rattle.entry.specs.Entry.{ratio_z}
 use Rattle.intops.proofs.Signed.{signed, ud}
 use Rattle.frame.specs.declared.Header.{Header}
 use Rattle.loops.proofs.Counting.{byte_one}
-use borrow.Author.Tests.{leb-false, ne_eqb, ltb-false}
 use Rattle.loops.proofs.Keeps.{set_has, span_in}
 use Rattle.picks.specs.declared.Pocs.{Pocs}
 use Rattle.picks.specs.declared.Picks.{Picks}
@@ -24,8 +18,6 @@ use Rattle.rank.proofs.Laws.{sorted_small}
 use Rattle.topo.proofs.Small.{ordered_small}
 use Rattle.topo.specs.declared.Order.{Order}
 use Rattle.topo.specs.Topo.{ordered}
-use native.Mathlib.Omega.{arith}
-use lib.ListN.{get_or, replicate}
 use Rattle.levels.specs.declared.Slot.{Slot}
 use Rattle.levels.specs.Slots.{slot, slot_at}
 use Rattle.picks.specs.Picks.{Valid, Slots, appended, offered, earlier, later, nearer_earlier, in_turn, round, neighbours, nth_earlier, nearest, both_ways, from_end, rest}

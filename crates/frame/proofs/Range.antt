@@ -1,14 +1,5 @@
 -- Each source of the record lies in the ranges that the loader tests. Assumes nothing.
-use mathlib.Core.Path.{◌≡◌, refl}
-use mathlib.Core.Bool.{Bool, true, false, cond}
-use mathlib.Core.List.{List}
-use Prim.Native.Nat.{ℕ, zero, suc, ◌≤◌}
-use native.Mathlib.Omega.{arith}
-use lib.Dec.{ltb, eqb}
-use lib.IntN.{ℤ, pos, negsuc, neg_ℤ, nat_abs, ◌-ℤ◌}
-use lib.Signed.{◌≤ℤ◌}
-use lib.ListN.{get_or, replicate}
-use borrow.Author.Tests.{ltb-true, ltb-false}
+use Rattle.std.proofs.Common.{◌≡◌, refl, Bool, true, false, cond, List, ℕ, zero, suc, ◌≤◌, arith, ltb, eqb, ℤ, pos, negsuc, neg_ℤ, nat_abs, ◌-ℤ◌, ◌≤ℤ◌, get_or, replicate, ltb-true, ltb-false}
 use Rattle.loops.specs.Seven.{seven}
 use Rattle.loops.proofs.Keeps.{set_has, span_in}
 use Rattle.loops.proofs.Seven.{seven_all}

@@ -1,13 +1,7 @@
 -- The theorems that specs/Theorems.antt states. Assumes nothing.
-use mathlib.Core.Path.{◌≡◌, refl}
-use mathlib.Core.Bool.{Bool, true, false, not, cond, ◌||◌}
-use mathlib.Core.List.{List}
-use Prim.Native.Nat.{ℕ, zero, suc, ◌+◌, ◌*◌, ◌≤◌, ◌<◌}
-use mathlib.Core.Logic.{◌⊎◌, inl, inr}
-use native.Mathlib.Omega.{arith}
-use lib.Dec.{ltb, eqb}
-use lib.ListN.{get_or, replicate, get_or-replicate}
-use borrow.Author.Tests.{ltb-true, ltb-false, eqb-true, eqb-false, eq-eqb}
+use Rattle.std.proofs.Common.{◌≡◌, refl, Bool, true, false, not, cond, ◌||◌, List, ℕ, zero, suc, ◌+◌, ◌*◌, ◌≤◌, ◌<◌, ◌⊎◌, inl, inr, arith, ltb, eqb, get_or, replicate, ltb-true, ltb-false, eqb-true, eq-eqb}
+use Rattle.std.proofs.Math.ListN.{get_or-replicate}
+use borrow.Author.Tests.{eqb-false}
 use Rattle.intops.proofs.Tests.{or_neither}
 use Rattle.loops.proofs.Keeps.{set_has, span_in}
 use Rattle.picks.specs.declared.Pocs.{Pocs}
@@ -18,13 +12,13 @@ use Rattle.picks.specs.declared.Saved.{Saved}
 use Rattle.picks.specs.Hints.{no_hint, saved_of}
 use Rattle.entry.specs.Entry.{found}
 use Rattle.refs.specs.Refs.{diffs, link_in, put_link, links_of}
-use Rattle.rank.proofs.Sorted as rank
 use Rattle.topo.specs.Theorems.{Among}
-use Rattle.topo.proofs.Perm as topo
 use Rattle.frame.specs.declared.Header.{Header}
 use Rattle.frame.specs.Frame.{bad_step, bad_size, refusal_of, frame_of, setup_of}
 use Rattle.frame.specs.Theorems.{FrameInRange, AcceptedInRange, OrdersPermute}
 use Rattle.frame.proofs.Range.{sources_in}
+use Rattle.rank.proofs.Sorted as rank
+use Rattle.topo.proofs.Perm as topo
 
 -- ---- what the tests of a header that is not refused leave
 
