@@ -1,13 +1,7 @@
 -- What holds of every trajectory that the owner has, and of the empty one, holds after a program that writes only such trajectories.
 -- The owned trajectories lie within both lists, as an accepted call's do. Assumes nothing.
-use mathlib.Core.Path.{◌≡◌, refl}
-use mathlib.Core.Bool.{Bool, true, false, cond}
-use Prim.Native.Nat.{ℕ, zero, suc, ◌+◌, ◌<◌}
-use borrow.Author.Tests.{eqb-true, eqb-false}
-use lib.Dec.{eqb}
-use lib.IntN.{pos}
-use lib.ListN.{length}
-use lib.Seq.{get_or-set_same, get_or-set_other}
+use Rattle.std.proofs.Common.{◌≡◌, refl, Bool, true, false, cond, ℕ, zero, suc, ◌+◌, ◌<◌, eqb-true, eqb, pos, length, get_or-set_same, get_or-set_other}
+use borrow.Author.Tests.{eqb-false}
 use Rattle.levels.specs.declared.Mv.{Mv}
 use Rattle.loops.specs.Over.{over}
 use Rattle.store.specs.Store.{Store, Kind, field_mvs, field_refs, trajs, maps, blank, rd, wr}

@@ -1,11 +1,5 @@
 -- Lists that code is lent, and a loop over them as code runs it: what is left from where the loop is, on the lists as they are, is the whole of it on the lists where it began. Assumes nothing.
-use mathlib.Core.Path.{◌≡◌, refl, ◌∙◌}
-use mathlib.Core.Bool.{Bool}
-use mathlib.Core.List.{List}
-use Prim.Native.Nat.{ℕ, ◌+◌, ◌≤◌, ◌<◌}
-use native.Mathlib.Omega.{arith}
-use lib.IntN.{ℤ}
-use lib.ListN.{length}
+use Rattle.std.proofs.Common.{◌≡◌, refl, ◌∙◌, Bool, List, ℕ, ◌+◌, ◌≤◌, ◌<◌, arith, ℤ, length}
 use Rattle.loops.specs.Over.{span}
 use Rattle.loops.proofs.Turns.{turned, ended}
 use Rattle.store.specs.Store.{Store, Kind, SameLengths}

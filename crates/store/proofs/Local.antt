@@ -1,12 +1,7 @@
 -- A program is local to its owner's cells; two with no cell in common commute. Assumes nothing.
-use mathlib.Core.Path.{◌≡◌, refl, sym, ap, ◌∙◌, fun_ext}
-use mathlib.Core.Bool.{Bool, true, false, cond, true≢false}
-use mathlib.Core.List.{List, [], ◌∷◌}
-use Prim.Native.Nat.{ℕ, zero, suc, ◌+◌}
-use native.Mathlib.Nat.{suc_inj, suc-ne-zero}
-use lib.IntN.{ℤ, pos, nat_abs}
-use lib.ListN.{length, get_or, set, length-set}
-use lib.Seq.{get_or-set_other, ext_get_or}
+use Rattle.std.proofs.Common.{◌≡◌, refl, sym, ap, ◌∙◌, Bool, true, false, cond, true≢false, List, [], ◌∷◌, ℕ, zero, suc, ◌+◌, suc-ne-zero, ℤ, pos, nat_abs, length, get_or, set, length-set, get_or-set_other, ext_get_or}
+use Rattle.std.proofs.Math.Path.{fun_ext}
+use Rattle.std.proofs.Math.Nat.{suc_inj}
 use Rattle.levels.specs.declared.Mv.{Mv}
 use Rattle.loops.specs.Over.{over}
 use Rattle.store.specs.Store.{SameLengths, Store, Kind, field_mvs, field_refs, trajs, maps, pack, byte_cell, blank, rd, wr}

@@ -1,10 +1,5 @@
 -- The order theorem for any calls: accepted calls that are apart commute, and no accepted load changes any call's answer. Assumes nothing.
-use mathlib.Core.Path.{◌≡◌, refl, sym, ap, ◌∙◌}
-use mathlib.Core.Bool.{Bool, true, false, cond}
-use mathlib.Core.List.{List, [], ◌∷◌, map}
-use Prim.Native.Nat.{ℕ}
-use borrow.Author.Tests.{eqb-true}
-use lib.Dec.{leb, eqb}
+use Rattle.std.proofs.Common.{◌≡◌, refl, sym, ap, ◌∙◌, Bool, true, false, cond, List, [], ◌∷◌, map, ℕ, eqb-true, leb, eqb}
 use Rattle.store.specs.Calls.{keep, insert_by, sort_by, All, Pairs, accepted, called, as_listed, answers, loaded, plain_calls, plain_run}
 
 module _ {A : Type 0} (key : A → ℕ) (P : A → Type 0) where

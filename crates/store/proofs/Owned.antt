@@ -1,7 +1,5 @@
 -- A program whose every cell is its owner's does with guards what it does without. Assumes nothing.
-use mathlib.Core.Path.{◌≡◌, refl}
-use mathlib.Core.Bool.{Bool, true, false}
-use Prim.Native.Nat.{ℕ, ◌+◌, ◌*◌, ◌<◌}
+use Rattle.std.proofs.Common.{◌≡◌, refl, Bool, true, false, ℕ, ◌+◌, ◌*◌, ◌<◌}
 use Rattle.levels.specs.declared.Mv.{Mv}
 use Rattle.loops.proofs.Same.{over_same}
 use Rattle.store.specs.Store.{Store, Kind, rd}

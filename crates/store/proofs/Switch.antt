@@ -1,7 +1,5 @@
 -- A program behind a switch. Assumes nothing.
-use mathlib.Core.Path.{◌≡◌, ◌∙◌}
-use mathlib.Core.Bool.{Bool, true, false}
-use Prim.Native.Nat.{ℕ}
+use Rattle.std.proofs.Common.{◌≡◌, ◌∙◌, Bool, true, false, ℕ}
 use Rattle.store.specs.Store.{Store, Kind}
 use Rattle.store.specs.Program.{Prog, run, when}
 
