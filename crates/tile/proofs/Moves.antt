@@ -1,11 +1,6 @@
 -- How far a vector moves a cell: the numbers on the way fit their types. Assumes nothing.
-use mathlib.Core.Path.{◌≡◌, refl}
-use Prim.Native.Nat.{ℕ, ◌<◌}
-use native.Mathlib.Omega.{arith}
-use lib.IntN.{ℤ, pos, negsuc, ◌+ℤ◌, ◌-ℤ◌}
+use Rattle.std.proofs.Common.{◌≡◌, refl, ℕ, ◌<◌, arith, ℤ, pos, negsuc, ◌+ℤ◌, ◌-ℤ◌, w32, w64, SFits}
 use lib.Signed.{quot_z}
-use mir.Syntax.{w32, w64}
-use mir.Val.{SFits}
 use Rattle.intops.proofs.Signed.{signed, signed!, ud, ud_add, ud_quot, within_add, within_sub, within_fits, fits_within, within_pos}
 use Rattle.tile.specs.Layout.{cells_of, moved}
 

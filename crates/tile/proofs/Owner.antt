@@ -1,10 +1,5 @@
 -- Which cells are the tile's; tiles with no common column have no common cell. Assumes nothing.
-use mathlib.Core.Path.{◌≡◌}
-use mathlib.Core.Bool.{◌&&◌, true}
-use Prim.Native.Nat.{ℕ, ◌+◌, ◌-◌, ◌*◌, ◌/◌, ◌%◌, ◌≤◌, ◌<◌}
-use native.Mathlib.Omega.{arith}
-use borrow.Author.Tests.{leb-true, le-leb, lt-ltb}
-use lib.Dec.{leb, ltb}
+use Rattle.std.proofs.Common.{◌≡◌, ◌&&◌, true, ℕ, ◌+◌, ◌-◌, ◌*◌, ◌/◌, ◌%◌, ◌≤◌, ◌<◌, arith, leb-true, le-leb, lt-ltb, leb, ltb}
 use Rattle.intops.proofs.Tests.{and_both, both_and}
 use Rattle.store.specs.Store.{field_mvs, field_refs, trajs, maps}
 use Rattle.tile.specs.declared.Tile.{Tile}

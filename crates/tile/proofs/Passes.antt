@@ -1,9 +1,5 @@
 -- Which columns the loops over a tile meet; a pass whose every cell is the tile's. Assumes nothing.
-use mathlib.Core.Path.{◌≡◌, subst}
-use mathlib.Core.Bool.{true}
-use Prim.Native.Nat.{ℕ, ◌+◌, ◌-◌, ◌*◌, ◌/◌, ◌%◌, ◌≤◌, ◌<◌, min}
-use native.Mathlib.Omega.{arith}
-use borrow.Author.Tests.{leb-true, ltb-true}
+use Rattle.std.proofs.Common.{◌≡◌, subst, true, ℕ, ◌+◌, ◌-◌, ◌*◌, ◌/◌, ◌%◌, ◌≤◌, ◌<◌, min, arith, leb-true, ltb-true}
 use Rattle.loops.proofs.Same.{turn_below}
 use Rattle.store.specs.Program.{Prog}
 use Rattle.store.proofs.Owned.{Owned}

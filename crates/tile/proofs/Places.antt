@@ -1,13 +1,6 @@
 -- Where a cell stands, taken apart again: its column, its plane; blocks and sampled columns. Assumes nothing.
-use mathlib.Core.Path.{◌≡◌, sym, ap, ◌∙◌}
-use mathlib.Core.Logic.{◌⊎◌, inl, inr}
-use mathlib.Core.Bool.{true}
-use Prim.Native.Nat.{ℕ, ◌+◌, ◌-◌, ◌*◌, ◌/◌, ◌%◌, ◌≤◌, ◌<◌, min}
-use native.Mathlib.Nat.{add-mul, mul_assoc, mul-le-mul, mod-lt, mod-eq_of_lt, div-add-mod'}
-use native.Mathlib.Omega.{arith}
-use borrow.Author.Tests.{leb-true, ltb-true}
-use lib.Dec.{leb, ltb}
-use lib.Arith.{digits_lt, digits_div, digits_mod}
+use Rattle.std.proofs.Common.{◌≡◌, sym, ap, ◌∙◌, ◌⊎◌, inl, inr, true, ℕ, ◌+◌, ◌-◌, ◌*◌, ◌/◌, ◌%◌, ◌≤◌, ◌<◌, min, add-mul, mul_assoc, mul-le-mul, mod-lt, mod-eq_of_lt, div-add-mod', arith, leb-true, ltb-true, leb, ltb}
+use Rattle.std.proofs.Math.Arith.{digits_lt, digits_div, digits_mod}
 use Rattle.intops.proofs.Tests.{and_both}
 use Rattle.tile.specs.declared.Tile.{Tile}
 use Rattle.tile.specs.Layout.{row_cells, place, field_at, traj_at, map_at, on_step, block_start, near_col, same_rows}

@@ -1,10 +1,6 @@
 -- The loops over a tile's sampled cells, as code runs them: what is left from where a loop is, on the lists as they are, is the whole of it on the lists where it began. Assumes nothing.
-use mathlib.Core.Path.{◌≡◌, refl, ◌∙◌, subst}
-use mathlib.Core.Bool.{true, ◌&&◌}
-use Prim.Native.Nat.{ℕ, ◌+◌, ◌-◌, ◌%◌, ◌≤◌, ◌<◌, min}
-use native.Mathlib.Nat.{add-mod_right}
-use native.Mathlib.Omega.{arith}
-use borrow.Author.Tests.{leb-true, ltb-true}
+use Rattle.std.proofs.Common.{◌≡◌, refl, ◌∙◌, subst, true, ◌&&◌, ℕ, ◌+◌, ◌-◌, ◌%◌, ◌≤◌, ◌<◌, min, arith, leb-true, ltb-true}
+use Rattle.std.proofs.Math.Nat.{add-mod_right}
 use Rattle.intops.proofs.Tests.{and_both}
 use Rattle.loops.specs.Over.{span_by}
 use Rattle.loops.proofs.Turns.{turned_by, ended_by}
