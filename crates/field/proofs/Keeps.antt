@@ -1,6 +1,5 @@
 -- The passes over the field write no trajectory. Assumes nothing.
-use Prim.Native.Nat.{ℕ}
-use lib.IntN.{ℤ}
+use Rattle.std.proofs.Common.{ℕ, ℤ}
 use Rattle.levels.specs.declared.Mv.{Mv}
 use Rattle.store.proofs.Keeps.{Keeps}
 use Rattle.tile.specs.declared.Tile.{Tile}

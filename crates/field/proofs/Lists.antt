@@ -1,10 +1,5 @@
 -- The field's three lists as the passes are lent them. Assumes nothing.
-use mathlib.Core.Path.{◌≡◌, refl, ◌∙◌}
-use mathlib.Core.List.{List}
-use Prim.Native.Nat.{ℕ}
-use native.Mathlib.Omega.{arith}
-use lib.IntN.{ℤ}
-use lib.ListN.{length}
+use Rattle.std.proofs.Common.{◌≡◌, refl, ◌∙◌, List, ℕ, arith, ℤ, length}
 use Rattle.store.specs.Store.{Store, with_field}
 use Rattle.store.proofs.Lent.{Lent}
 use Rattle.tile.specs.declared.Tile.{Tile}

@@ -1,13 +1,9 @@
 -- The ways through the cells' programs, as code has them: the numbers that it computed are given by their equations, and so is what its callee ensures. Assumes nothing.
-use mathlib.Core.Path.{◌≡◌, ◌∙◌}
-use mathlib.Core.Bool.{true, false}
-use Prim.Native.Nat.{ℕ, ◌+◌, ◌-◌, ◌*◌, ◌/◌, ◌<◌}
-use lib.IntN.{ℤ, pos, nat_abs}
-use lib.ListN.{get_or}
+use Rattle.std.proofs.Common.{◌≡◌, ◌∙◌, true, false, ℕ, ◌+◌, ◌-◌, ◌*◌, ◌/◌, ◌<◌, ℤ, pos, nat_abs, get_or}
 use Rattle.levels.specs.declared.Mv.{Mv}
 use Rattle.mv.specs.Sums.{is_empty}
 use Rattle.store.specs.Store.{Store, field_mvs, field_refs, vec, byte_cell, rd, wr}
-use Rattle.store.specs.Program.{Prog, run, cell, ◌>>=◌, ◌>>◌}
+use Rattle.store.specs.Program.{Prog, run, cell, ◌>>=◌}
 use Rattle.tile.specs.declared.Tile.{Tile}
 use Rattle.tile.specs.Layout.{field_at}
 use Rattle.tile.specs.Owner.{own_block, owns}
