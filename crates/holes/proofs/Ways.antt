@@ -1,8 +1,5 @@
 -- The ways through the programs of hole filling, as code has them. Assumes nothing.
-use mathlib.Core.Path.{◌≡◌, sym, ap, ◌∙◌}
-use mathlib.Core.Bool.{Bool, true, false}
-use Prim.Native.Nat.{ℕ, ◌+◌, ◌-◌, ◌/◌}
-use lib.IntN.{ℤ}
+use Rattle.std.proofs.Common.{◌≡◌, sym, ap, ◌∙◌, Bool, true, false, ℕ, ◌+◌, ◌-◌, ◌/◌, ℤ}
 use Rattle.levels.specs.declared.Mv.{Mv}
 use Rattle.mv.specs.Sums.{is_empty}
 use Rattle.store.specs.Store.{Store}
