@@ -1,12 +1,6 @@
 -- Smoothing block by block: the sampled cells of a block by row and column, and the loops as code runs them. Assumes nothing.
-use mathlib.Core.Path.{◌≡◌, refl, sym, ap, ◌∙◌}
-use mathlib.Core.List.{List}
-use Prim.Native.Nat.{ℕ, ◌+◌, ◌-◌, ◌*◌, ◌/◌, ◌%◌, ◌≤◌, ◌<◌, min}
-use native.Mathlib.Nat.{add-mod_right}
-use native.Mathlib.Omega.{arith}
-use lib.IntN.{ℤ, pos}
-use lib.ListN.{length, length-set, set}
-use lib.Seq.{get_or-set_same, get_or-set_other}
+use Rattle.std.proofs.Common.{◌≡◌, refl, sym, ap, ◌∙◌, List, ℕ, ◌+◌, ◌-◌, ◌*◌, ◌/◌, ◌%◌, ◌≤◌, ◌<◌, min, arith, ℤ, pos, length, length-set, set, get_or-set_same, get_or-set_other}
+use Rattle.std.proofs.Math.Nat.{add-mod_right}
 use Rattle.levels.specs.declared.Mv.{Mv}
 use Rattle.loops.proofs.Counting.{is_or}
 use Rattle.loops.specs.Over.{span, span_by}
