@@ -1,6 +1,5 @@
 -- The lists of trajectories and of maps as the passes are lent them: two and two. Assumes nothing.
-use mathlib.Core.Path.{refl}
-use native.Mathlib.Omega.{arith}
+use Rattle.std.proofs.Common.{refl, arith}
 use Rattle.store.specs.Store.{Store, with_traj}
 use Rattle.store.proofs.Lent.{Lent, Two, LikeTwo, like_two, two_trans, two_lent}
 use Rattle.tile.specs.declared.Tile.{Tile}

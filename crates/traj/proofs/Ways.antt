@@ -1,9 +1,5 @@
 -- The ways through the programs of gap filling, as code has them: the numbers that it computed are given by their equations, and so is what its callee ensures. Assumes nothing.
-use mathlib.Core.Path.{◌≡◌, refl, sym, ap, ◌∙◌}
-use mathlib.Core.Bool.{Bool, true, false, ◌&&◌}
-use Prim.Native.Nat.{ℕ, ◌+◌, ◌/◌, ◌<◌}
-use lib.IntN.{pos}
-use lib.ListN.{get_or}
+use Rattle.std.proofs.Common.{◌≡◌, refl, sym, ap, ◌∙◌, Bool, true, false, ◌&&◌, ℕ, ◌+◌, ◌/◌, ◌<◌, pos, get_or}
 use Rattle.levels.specs.declared.Mv.{Mv}
 use Rattle.mv.specs.Sums.{is_empty, no_sum, added, gap_of}
 use Rattle.store.specs.Store.{Store, trajs, vec, wr}

@@ -1,10 +1,5 @@
 -- What the tests of check_traj_intersect tell of the places that pass them. Assumes nothing.
-use mathlib.Core.Path.{◌≡◌}
-use mathlib.Core.Bool.{Bool, true, not, ◌&&◌}
-use Prim.Native.Nat.{ℕ, ◌+◌, ◌/◌, ◌<◌}
-use native.Mathlib.Omega.{arith}
-use borrow.Author.Tests.{ltb-true, eqb-true}
-use lib.Dec.{eqb, ltb}
+use Rattle.std.proofs.Common.{◌≡◌, Bool, true, not, ◌&&◌, ℕ, ◌+◌, ◌/◌, ◌<◌, arith, ltb-true, eqb-true, eqb, ltb}
 use Rattle.intops.proofs.Tests.{and_both}
 use Rattle.levels.specs.declared.Mv.{Mv}
 use Rattle.tile.specs.declared.Tile.{Tile}

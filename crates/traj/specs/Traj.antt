@@ -3,7 +3,7 @@
 -- A trajectory of slot n at (y, x): the vector from that cell of this frame to slot n's frame.
 -- A map cell of slot n at (y, x): the offset from (y, x) back to the cell whose trajectory of slot n ends there.
 -- It stands in plane 0, 1 or 2 where that cell lies one block to the left, in the same block, one block to the right.
-use Rattle.std.specs.Prelude.{Bool, not, ◌&&◌, ◌||◌, ℕ, ◌+◌, ◌-◌, ◌*◌, ◌/◌, min, eqb, leb, ltb, ℤ, pos, negsuc, neg_ℤ, nat_abs, ◌+ℤ◌, ◌-ℤ◌}
+use Rattle.std.specs.Prelude.{Bool, not, ◌&&◌, ◌||◌, ℕ, ◌+◌, ◌-◌, ◌*◌, ◌/◌, min, eqb, leb, ltb, pos, negsuc, neg_ℤ, nat_abs, ◌+ℤ◌, ◌-ℤ◌}
 use Rattle.intops.specs.Choice.{eq_z, clip_z}
 use Rattle.levels.specs.declared.Mv.{Mv}
 use Rattle.levels.specs.Vector.{empty}
