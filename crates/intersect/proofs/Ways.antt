@@ -1,11 +1,5 @@
 -- The ways through the programs of check_traj_intersect, as code has them: the numbers that it computed are given by their equations, and so is what its callee ensures. Assumes nothing.
-use mathlib.Core.Path.{◌≡◌, sym, ap, ◌∙◌}
-use mathlib.Core.Bool.{true, false}
-use mathlib.Core.List.{List}
-use Prim.Native.Nat.{ℕ, ◌+◌, ◌-◌, ◌/◌, ◌<◌}
-use native.Mathlib.Omega.{arith}
-use lib.IntN.{ℤ, pos, neg_ℤ, ◌+ℤ◌, ◌-ℤ◌}
-use lib.ListN.{get_or, set}
+use Rattle.std.proofs.Common.{◌≡◌, sym, ap, ◌∙◌, true, false, List, ℕ, ◌+◌, ◌-◌, ◌/◌, ◌<◌, arith, ℤ, pos, neg_ℤ, ◌+ℤ◌, ◌-ℤ◌, get_or, set}
 use Rattle.intops.specs.Choice.{clip_z, eq_z}
 use Rattle.levels.specs.declared.Mv.{Mv}
 use Rattle.store.specs.Store.{Store, maps, vec, with_traj}
