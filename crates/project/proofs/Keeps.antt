@@ -1,9 +1,5 @@
 -- Each trajectory that projection writes is one that test 12 lets through. Assumes nothing.
-use mathlib.Core.Bool.{Bool}
-use mathlib.Core.List.{List}
-use Prim.Native.Nat.{ℕ}
-use native.Mathlib.Omega.{arith}
-use lib.IntN.{ℤ}
+use Rattle.std.proofs.Common.{Bool, List, ℕ, arith, ℤ}
 use Rattle.levels.specs.declared.Mv.{Mv}
 use Rattle.entry.specs.declared.Source.{Source}
 use Rattle.store.proofs.Keeps.{Keeps}

@@ -1,13 +1,5 @@
 -- Projection reads and writes the tile's own cells alone. Assumes nothing.
-use mathlib.Core.Path.{◌≡◌, sym, ap, ◌∙◌, subst}
-use mathlib.Core.Bool.{Bool, true, false, not, ◌&&◌}
-use mathlib.Core.List.{List}
-use Prim.Native.Nat.{ℕ, ◌+◌, ◌-◌, ◌*◌, ◌/◌, ◌%◌, ◌≤◌, ◌<◌, min}
-use native.Mathlib.Omega.{arith}
-use borrow.Author.Tests.{leb-true, ltb-true}
-use lib.Dec.{leb, ltb}
-use lib.IntN.{ℤ, negsuc, neg_ℤ, nat_abs}
-use lib.ListN.{get_or}
+use Rattle.std.proofs.Common.{◌≡◌, sym, ap, ◌∙◌, subst, Bool, true, false, not, ◌&&◌, List, ℕ, ◌+◌, ◌-◌, ◌*◌, ◌/◌, ◌%◌, ◌≤◌, ◌<◌, min, arith, leb-true, ltb-true, leb, ltb, ℤ, negsuc, neg_ℤ, nat_abs, get_or}
 use Rattle.intops.specs.Choice.{eq_z}
 use Rattle.intops.proofs.Tests.{and_both}
 use Rattle.levels.specs.declared.Mv.{Mv}

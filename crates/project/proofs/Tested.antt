@@ -1,13 +1,6 @@
 -- What tests 9 and 12 say of a source and of a saved block. Assumes nothing.
-use mathlib.Core.Path.{◌≡◌, refl, ap, ◌∙◌}
-use mathlib.Core.Bool.{Bool, true, false, not, ◌&&◌, ◌||◌}
-use Prim.Native.Nat.{ℕ, zero, suc, ◌+◌, ◌≤◌, ◌<◌}
-use native.Mathlib.Omega.{arith}
-use native.Mathlib.Numerals.{add-one}
-use borrow.Author.Tests.{leb-true, leb-false, ltb-true, eqb-true, eqb-false}
-use lib.Dec.{eqb, leb, ltb}
-use lib.IntN.{ℤ, pos, negsuc, nat_abs}
-use lib.ListN.{get_or}
+use Rattle.std.proofs.Common.{◌≡◌, refl, ap, ◌∙◌, Bool, true, false, not, ◌&&◌, ◌||◌, ℕ, zero, suc, ◌+◌, ◌≤◌, ◌<◌, arith, add-one, leb-true, leb-false, ltb-true, eqb-true, eqb, leb, ltb, ℤ, pos, negsuc, nat_abs, get_or}
+use borrow.Author.Tests.{eqb-false}
 use lib.Signed.{lt_z}
 use Rattle.intops.specs.Choice.{eq_z}
 use Rattle.intops.specs.Bounds.{Within}
