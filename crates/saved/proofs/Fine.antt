@@ -1,14 +1,7 @@
 -- What a saved block says that test 12 lets through. Assumes nothing.
-use mathlib.Core.Path.{◌≡◌, refl, sym, ap, ◌∙◌}
-use mathlib.Core.Bool.{Bool, true, false, not, cond, ◌&&◌, ◌||◌, true≢false}
-use Prim.Native.Nat.{ℕ, ◌<◌}
-use native.Mathlib.Omega.{arith}
-use borrow.Author.Tests.{ne_eqb, le-ltb}
-use lib.IntN.{ℤ, pos, negsuc, nat_abs}
+use Rattle.std.proofs.Common.{◌≡◌, refl, sym, ap, ◌∙◌, Bool, true, false, not, cond, ◌&&◌, ◌||◌, true≢false, ℕ, ◌<◌, arith, ne_eqb, le-ltb, ℤ, pos, negsuc, nat_abs, w8, SFits}
 use lib.Signed.{lt_z}
 use denote.Enum.Declared.{tag_of}
-use mir.Syntax.{w8}
-use mir.Val.{SFits}
 use Rattle.intops.specs.Choice.{eq_z, with_sign}
 use Rattle.intops.proofs.Signed.{abs_sign}
 use Rattle.intops.proofs.Tests.{and_both}

@@ -1,13 +1,6 @@
 -- The part of a slot's plane from the tile's first row on: where it lies in the planes, and that a block read from it is the plane's. Assumes nothing.
-use mathlib.Core.Path.{◌≡◌, sym, ap, ◌∙◌}
-use mathlib.Core.List.{List}
-use Prim.Native.Nat.{ℕ, ◌+◌, ◌-◌, ◌*◌, ◌≤◌, ◌<◌}
-use native.Mathlib.Nat.{add-mul, mul-le-mul_right, mul_assoc}
-use native.Mathlib.Omega.{arith}
-use lib.Arith.{digits_lt}
-use lib.IntN.{ℤ, pos}
-use lib.ListN.{length, get_or, take, drop, length-drop}
-use lib.Seq.{take_all, get_or-drop}
+use Rattle.std.proofs.Common.{◌≡◌, sym, ap, ◌∙◌, List, ℕ, ◌+◌, ◌-◌, ◌*◌, ◌≤◌, ◌<◌, add-mul, mul-le-mul_right, mul_assoc, arith, ℤ, pos, length, get_or, take, drop, length-drop, take_all, get_or-drop}
+use Rattle.std.proofs.Math.Arith.{digits_lt}
 use Rattle.levels.specs.declared.QMv.{QMv}
 use Rattle.tile.specs.declared.Tile.{Tile}
 use Rattle.tile.specs.Sound.{Sound}
