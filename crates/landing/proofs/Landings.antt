@@ -1,11 +1,5 @@
 -- A vector in range, and where one lands. Assumes nothing.
-use mathlib.Core.Path.{◌≡◌, refl}
-use mathlib.Core.Bool.{Bool, true, false, ◌&&◌}
-use Prim.Native.Nat.{ℕ, ◌+◌, ◌*◌, ◌/◌, ◌%◌, ◌≤◌, ◌<◌, min}
-use native.Mathlib.Omega.{arith}
-use borrow.Author.Tests.{leb-true, ltb-true, ltb-false}
-use lib.Dec.{leb, ltb}
-use lib.IntN.{neg_ℤ, nat_abs}
+use Rattle.std.proofs.Common.{◌≡◌, Bool, true, false, ◌&&◌, ℕ, ◌+◌, ◌*◌, ◌/◌, ◌%◌, ◌≤◌, ◌<◌, min, arith, leb-true, ltb-true, ltb-false, leb, ltb, neg_ℤ, nat_abs}
 use Rattle.intops.proofs.Tests.{and_both, or_neither}
 use Rattle.levels.specs.declared.Mv.{Mv}
 use Rattle.mv.specs.Projection.{past_range}
