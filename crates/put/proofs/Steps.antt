@@ -1,10 +1,5 @@
 -- The ways through the programs of a landed vector, as code has them: the numbers that it computed are given by their equations, and so is what its callee ensures. Assumes nothing.
-use mathlib.Core.Path.{◌≡◌, ap, ◌∙◌}
-use mathlib.Core.Bool.{Bool, true, false, not, cond}
-use mathlib.Core.List.{List}
-use Prim.Native.Nat.{ℕ, ◌+◌, ◌-◌, ◌/◌}
-use lib.IntN.{ℤ, pos, nat_abs, ◌-ℤ◌}
-use lib.ListN.{get_or, set}
+use Rattle.std.proofs.Common.{◌≡◌, ap, ◌∙◌, Bool, true, false, not, cond, List, ℕ, ◌+◌, ◌-◌, ◌/◌, ℤ, pos, nat_abs, ◌-ℤ◌, get_or, set}
 use lib.Signed.{lt_z}
 use Rattle.levels.specs.declared.Mv.{Mv}
 use Rattle.mv.specs.Projection.{scale_mv}
