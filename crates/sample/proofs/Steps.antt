@@ -1,10 +1,5 @@
 -- The ways through the programs of a saved block, as code has them: the numbers that it computed are given by their equations, and so is what its callee ensures. Assumes nothing.
-use mathlib.Core.Path.{◌≡◌, sym, ap, ◌∙◌}
-use mathlib.Core.Bool.{Bool, true, false, not, ◌&&◌}
-use mathlib.Core.List.{List}
-use Prim.Native.Nat.{ℕ}
-use lib.IntN.{ℤ, pos, negsuc, neg_ℤ, nat_abs}
-use lib.ListN.{get_or}
+use Rattle.std.proofs.Common.{◌≡◌, sym, ap, ◌∙◌, Bool, true, false, not, ◌&&◌, List, ℕ, ℤ, pos, negsuc, neg_ℤ, nat_abs, get_or}
 use Rattle.intops.specs.Choice.{eq_z}
 use Rattle.levels.specs.declared.Mv.{Mv}
 use Rattle.entry.specs.declared.Source.{Source}
