@@ -1,12 +1,6 @@
 -- The loops over a source's blocks, as code runs them: what is left from where a loop is, on the lists as they are, is the whole of it on the lists where it began. Assumes nothing.
-use mathlib.Core.Path.{◌≡◌, refl, ◌∙◌}
-use mathlib.Core.Bool.{Bool, true, false, not, ◌&&◌}
-use mathlib.Core.List.{List}
-use Prim.Native.Nat.{ℕ, ◌+◌, ◌-◌, ◌%◌, ◌≤◌, ◌<◌, min}
-use native.Mathlib.Nat.{add-mod_right}
-use native.Mathlib.Omega.{arith}
-use lib.IntN.{ℤ, negsuc}
-use lib.ListN.{get_or}
+use Rattle.std.proofs.Common.{◌≡◌, refl, ◌∙◌, Bool, true, false, not, ◌&&◌, List, ℕ, ◌+◌, ◌-◌, ◌%◌, ◌≤◌, ◌<◌, min, arith, ℤ, negsuc, get_or}
+use Rattle.std.proofs.Math.Nat.{add-mod_right}
 use Rattle.intops.specs.Choice.{eq_z}
 use Rattle.intops.proofs.Tests.{and_false_right}
 use Rattle.loops.specs.Over.{span_by}
