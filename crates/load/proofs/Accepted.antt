@@ -1,13 +1,7 @@
 -- What tests 9 to 12 say of an accepted call. Assumes nothing.
-use mathlib.Core.Path.{◌≡◌, refl, sym, subst}
-use mathlib.Core.Bool.{Bool, true, false, not, cond, ◌&&◌, ◌||◌, true≢false}
-use mathlib.Core.Logic.{◌⊎◌, inl, inr}
-use Prim.Native.Nat.{ℕ, zero, suc, ◌+◌, ◌-◌, ◌*◌, ◌/◌, ◌%◌, ◌≤◌, ◌<◌, min}
-use native.Mathlib.Nat.{mul-mod_left, mul-le-mul}
-use native.Mathlib.Omega.{arith}
-use borrow.Author.Tests.{leb-true, ltb-true, ltb-false, eqb-true, eqb-false}
-use lib.Dec.{eqb, leb, ltb}
-use lib.ListN.{get_or}
+use Rattle.std.proofs.Common.{◌≡◌, refl, sym, subst, Bool, true, false, not, cond, ◌&&◌, ◌||◌, true≢false, ◌⊎◌, inl, inr, ℕ, ◌+◌, ◌*◌, ◌/◌, ◌%◌, ◌≤◌, ◌<◌, min, mul-le-mul, arith, leb-true, ltb-true, ltb-false, eqb-true, eqb, leb, ltb, get_or}
+use Rattle.std.proofs.Math.Nat.{mul-mod_left}
+use borrow.Author.Tests.{eqb-false}
 use Rattle.intops.proofs.Tests.{and_both, not-false}
 use Rattle.frame.specs.declared.Frame.{Frame}
 use Rattle.frame.specs.Frame.{no_source, bad_size}

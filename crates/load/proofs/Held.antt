@@ -1,12 +1,5 @@
 -- What test 11 says: the lists of an accepted call reach as far as the passes read and write. Assumes nothing.
-use mathlib.Core.Path.{◌≡◌}
-use mathlib.Core.Bool.{Bool, true, false, cond, ◌&&◌}
-use Prim.Native.Nat.{ℕ, ◌+◌, ◌*◌, ◌/◌, ◌%◌, ◌≤◌, ◌<◌}
-use native.Mathlib.Nat.{add-mul, mul-le-mul_right}
-use native.Mathlib.Omega.{arith}
-use borrow.Author.Tests.{leb-true}
-use lib.Dec.{leb}
-use lib.ListN.{length}
+use Rattle.std.proofs.Common.{◌≡◌, Bool, true, false, cond, ◌&&◌, ℕ, ◌+◌, ◌*◌, ◌/◌, ◌%◌, ◌≤◌, ◌<◌, add-mul, mul-le-mul_right, arith, leb-true, leb, length}
 use Rattle.intops.proofs.Tests.{and_both}
 use Rattle.frame.specs.declared.Frame.{Frame}
 use Rattle.store.specs.Store.{Store}

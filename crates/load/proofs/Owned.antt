@@ -1,12 +1,5 @@
 -- An accepted load reads and writes the tile's own cells alone. Assumes nothing.
-use mathlib.Core.Path.{◌≡◌, refl}
-use mathlib.Core.Bool.{Bool, true, false, not, ◌&&◌, ◌||◌}
-use Prim.Native.Nat.{ℕ, ◌+◌, ◌*◌, ◌<◌}
-use native.Mathlib.Omega.{arith}
-use borrow.Author.Tests.{ltb-true}
-use lib.Dec.{ltb}
-use lib.IntN.{negsuc}
-use lib.ListN.{get_or}
+use Rattle.std.proofs.Common.{◌≡◌, refl, Bool, true, false, not, ◌&&◌, ◌||◌, ℕ, ◌+◌, ◌*◌, ◌<◌, arith, ltb-true, ltb, negsuc, get_or}
 use Rattle.intops.specs.Choice.{eq_z}
 use Rattle.intops.proofs.Tests.{and_both, not-false}
 use Rattle.entry.specs.declared.Source.{Source}

@@ -1,12 +1,6 @@
 -- Every setup that init_frame accepts passes test 9. Assumes nothing.
-use mathlib.Core.Path.{◌≡◌, refl}
-use mathlib.Core.Bool.{Bool, true, false}
-use Prim.Native.Nat.{ℕ, zero, suc, ◌≤◌}
-use native.Mathlib.Omega.{arith}
-use borrow.Author.Tests.{le-leb, lt-ltb, ne_eqb, le-ltb}
-use lib.IntN.{ℤ, pos, negsuc, nat_abs}
-use lib.ListN.{get_or}
-use lib.Signed.{lt_z, ◌≤ℤ◌}
+use Rattle.std.proofs.Common.{◌≡◌, refl, Bool, true, false, ℕ, zero, suc, ◌≤◌, arith, le-leb, lt-ltb, ne_eqb, le-ltb, ℤ, pos, negsuc, nat_abs, get_or, ◌≤ℤ◌}
+use lib.Signed.{lt_z}
 use Rattle.intops.proofs.Signed.{signed}
 use Rattle.entry.specs.declared.Source.{Source}
 use Rattle.frame.specs.declared.Frame.{Frame}

@@ -1,15 +1,6 @@
 -- An accepted load leaves every call's answer as it was. Assumes nothing.
-use mathlib.Core.Path.{◌≡◌, refl, sym, ap, ◌∙◌}
-use mathlib.Core.Bool.{Bool, true, false}
-use mathlib.Core.List.{List}
-use Prim.Native.Nat.{ℕ, zero, suc, ◌*◌, ◌<◌}
-use native.Mathlib.Omega.{arith}
-use borrow.Author.Tests.{ltb-true}
-use lib.Dec.{ltb}
-use lib.IntN.{ℤ}
+use Rattle.std.proofs.Common.{◌≡◌, refl, sym, ap, ◌∙◌, Bool, true, false, ℕ, zero, suc, ◌*◌, ◌<◌, arith, ltb-true, ltb}
 use Rattle.intops.proofs.Tests.{and_both}
-use Rattle.levels.specs.declared.Mv.{Mv}
-use Rattle.entry.specs.declared.Source.{Source}
 use Rattle.store.specs.Store.{Store, trajs, rd}
 use Rattle.store.proofs.Local.{Local, local_run}
 use Rattle.store.proofs.Keeps.{Keeps, Good, good_run}

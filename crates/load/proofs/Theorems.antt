@@ -1,10 +1,5 @@
 -- The theorems of specs/Theorems.antt. Assumes nothing.
-use mathlib.Core.Path.{◌≡◌, refl, ap, ◌∙◌, subst}
-use mathlib.Core.Bool.{Bool, true, false, ◌&&◌}
-use Prim.Native.Nat.{ℕ, ◌+◌, ◌-◌, ◌*◌, ◌/◌, ◌%◌, ◌≤◌, ◌<◌}
-use native.Mathlib.Omega.{arith}
-use borrow.Author.Tests.{eqb-true}
-use lib.Dec.{ltb}
+use Rattle.std.proofs.Common.{◌≡◌, refl, ap, ◌∙◌, subst, Bool, true, false, ◌&&◌, ℕ, ◌+◌, ◌-◌, ◌*◌, ◌/◌, ◌%◌, ◌≤◌, ◌<◌, arith, eqb-true, ltb}
 use Rattle.intops.proofs.Tests.{and_both, and_false_right}
 use Rattle.store.specs.Store.{Store, Kind, field_mvs, field_refs, trajs, maps}
 use Rattle.store.specs.Calls.{keep, accepted}
