@@ -1,9 +1,5 @@
 -- How large the numbers of a setup that passes test 9 can be, and where a saved block ends. Assumes nothing.
-use mathlib.Core.Path.{◌≡◌, sym}
-use mathlib.Core.Bool.{Bool, true, false, cond}
-use Prim.Native.Nat.{ℕ, ◌+◌, ◌*◌, ◌/◌, ◌≤◌, ◌<◌}
-use native.Mathlib.Nat.{mul-le-mul, mul_assoc}
-use native.Mathlib.Omega.{arith}
+use Rattle.std.proofs.Common.{◌≡◌, sym, Bool, true, false, cond, ℕ, ◌+◌, ◌*◌, ◌/◌, ◌≤◌, ◌<◌, mul-le-mul, mul_assoc, arith}
 use Rattle.loops.proofs.Turns.{row_within, cell_within}
 use Rattle.frame.specs.declared.Frame.{Frame}
 use Rattle.tile.specs.declared.Tile.{Tile}

@@ -1,10 +1,5 @@
 -- A source past the end of the array: code and definition read there a source of zeros, with arrays of none and of seven. Assumes nothing.
-use mathlib.Core.Path.{◌≡◌, refl}
-use mathlib.Core.Bool.{Bool, false}
-use mathlib.Core.List.{List, [], ◌∷◌}
-use Prim.Native.Nat.{ℕ, zero, suc}
-use lib.IntN.{ℤ, pos}
-use lib.ListN.{get_or}
+use Rattle.std.proofs.Common.{◌≡◌, refl, Bool, false, List, [], ◌∷◌, ℕ, zero, suc, ℤ, pos, get_or}
 use Rattle.entry.specs.declared.Source.{Source}
 use Rattle.frame.specs.Frame.{no_source}
 use Rattle.tile.specs.declared.Tile.{Tile}

@@ -1,7 +1,6 @@
 -- Tests as code joins them, and as the definitions state them. Assumes nothing.
-use mathlib.Core.Path.{◌≡◌, refl}
-use mathlib.Core.Bool.{Bool, true, false, not, ◌&&◌, ◌||◌, beq}
-use lib.IntN.{ℤ}
+use Rattle.std.proofs.Common.{◌≡◌, refl, Bool, true, false, not, ◌&&◌, ◌||◌, ℤ}
+use Rattle.std.proofs.Math.Bool.{beq}
 use lib.Signed.{lt_z, le_z}
 use Rattle.intops.proofs.Signed.{signed}
 
