@@ -1,12 +1,5 @@
 -- The ways through a load's groups of passes, as code has them: the call's values are given by their equations, and so is what its callees ensure. Assumes nothing.
-use mathlib.Core.Path.{◌≡◌, ap, ◌∙◌}
-use mathlib.Core.Bool.{true, false, not}
-use mathlib.Core.Logic.{◌⊎◌, inl, inr}
-use Prim.Native.Nat.{ℕ, ◌≤◌, ◌<◌}
-use native.Mathlib.Omega.{arith}
-use lib.Dec.{eqb, ltb}
-use borrow.Author.Tests.{ne_eqb, lt-ltb, le-ltb}
-use lib.IntN.{ℤ}
+use Rattle.std.proofs.Common.{◌≡◌, ap, ◌∙◌, true, false, not, ◌⊎◌, inl, inr, ℕ, ◌≤◌, ◌<◌, arith, eqb, ltb, ne_eqb, lt-ltb, le-ltb, ℤ}
 use Rattle.store.specs.Store.{Store, pack}
 use Rattle.store.specs.Program.{Prog, run, when, each}
 use Rattle.store.proofs.Switch.{off}
