@@ -1,11 +1,6 @@
 -- A source past the end of the array: code and definition read there a source of zeros, with arrays of none and of seven. Its program is the same. Assumes nothing.
-use mathlib.Core.Path.{◌≡◌, refl, sym, ap, fun_ext}
-use mathlib.Core.Bool.{Bool, true, false, not, ◌&&◌, ◌||◌, true≢false}
-use mathlib.Core.List.{List}
-use Prim.Native.Nat.{ℕ, zero, suc, ◌+◌, ◌-◌, min}
-use lib.Dec.{eqb}
-use lib.IntN.{ℤ, pos, negsuc, neg_ℤ, nat_abs}
-use lib.ListN.{get_or}
+use Rattle.std.proofs.Common.{◌≡◌, refl, sym, ap, Bool, true, false, not, ◌&&◌, ◌||◌, true≢false, List, ℕ, zero, suc, ◌+◌, ◌-◌, min, eqb, ℤ, pos, negsuc, neg_ℤ, nat_abs, get_or}
+use Rattle.std.proofs.Math.Path.{fun_ext}
 use Rattle.intops.specs.Choice.{eq_z}
 use Rattle.levels.specs.declared.Mv.{Mv}
 use Rattle.mv.specs.Sums.{is_empty}

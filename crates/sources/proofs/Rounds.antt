@@ -1,9 +1,5 @@
 -- The sources of a load one by one, as code has them. Assumes nothing.
-use mathlib.Core.Path.{◌≡◌, ◌∙◌}
-use mathlib.Core.Bool.{Bool}
-use mathlib.Core.List.{List}
-use Prim.Native.Nat.{ℕ}
-use lib.IntN.{ℤ}
+use Rattle.std.proofs.Common.{◌≡◌, ◌∙◌, Bool, List, ℕ, ℤ}
 use Rattle.store.specs.Store.{Store}
 use Rattle.store.specs.Program.{Prog, run, each}
 use Rattle.tile.specs.declared.Tile.{Tile}
