@@ -1,9 +1,5 @@
 -- A load's passes in their order, as code has them: what each ensures is given. Assumes nothing.
-use mathlib.Core.Path.{◌≡◌, ap, ◌∙◌}
-use mathlib.Core.Bool.{Bool, not}
-use mathlib.Core.List.{List}
-use Prim.Native.Nat.{ℕ}
-use lib.IntN.{ℤ}
+use Rattle.std.proofs.Common.{◌≡◌, ap, ◌∙◌, Bool, not, List, ℕ, ℤ}
 use Rattle.store.specs.Store.{Store, pack, with_field, with_traj}
 use Rattle.store.specs.Program.{run, when}
 use Rattle.tile.specs.declared.Tile.{Tile}
