@@ -1,9 +1,5 @@
 -- A call that is accepted, and one that is not, as code has them. Assumes nothing.
-use mathlib.Core.Path.{◌≡◌, sym, ap, ◌∙◌, subst}
-use mathlib.Core.Bool.{Bool, false, cond}
-use Prim.Native.Nat.{◌*◌, ◌≤◌}
-use borrow.Author.Tests.{ne_eqb}
-use lib.ListN.{length}
+use Rattle.std.proofs.Common.{◌≡◌, sym, ap, ◌∙◌, subst, Bool, false, cond, ◌*◌, ◌≤◌, ne_eqb, length}
 use Rattle.intops.proofs.Tests.{and_both}
 use Rattle.store.specs.Store.{Store}
 use Rattle.store.specs.Program.{run}
