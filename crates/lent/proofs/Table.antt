@@ -1,5 +1,5 @@
 -- 01's table holds: each line is computed. Assumes nothing.
-use mathlib.Core.Path.{refl}
+use Rattle.std.proofs.Common.{refl}
 use Rattle.intops.specs.Bits.{highest_bit, highest_from}
 use Rattle.intops.specs.Rounding.{round_div}
 use Rattle.mv.specs.Packing.{pack_code, unpack_mag, first_with}
