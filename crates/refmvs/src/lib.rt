@@ -1,4 +1,4 @@
-// The library as C and Rust call it. Each entry takes any numbers, answers the refusal's number of
+// The library's entries, which refmvs_c exports for C and Rust. Each takes any numbers, answers the refusal's number of
 // 01 (0 for none), and writes its result into a buffer that the caller lends. A refused call leaves
 // the buffer as it was. The setup is handed over and given back by value.
 #![tactic(auto)]
