@@ -1,12 +1,7 @@
 -- Laws of pieces of text that are put one behind the other. Assumes nothing.
-use mathlib.Core.List.{List, [], ◌∷◌, ◌++◌, append_assoc, append-nil}
-use mathlib.Core.Path.{◌≡◌, ap, ◌∙◌, sym, subst}
-use Prim.Native.Nat.{ℕ, suc, ◌+◌, ◌-◌, ◌/◌, ◌%◌, ◌≤◌, ◌<◌}
-use native.Mathlib.Nat.{add-zero, sub-zero, sub_self}
-use native.Mathlib.Numerals.{add-one}
-use native.Mathlib.Omega.{arith}
-use lib.ListN.{length, take, drop, set, get_or}
-use lib.Seq.{append_snoc, take-suc-set, take-suc, take-set-le, take-add, take-length, set_split, drop_at, length-take-le}
+use Rattle.std.proofs.Common.{List, [], ◌∷◌, ◌++◌, append_assoc, append-nil, ◌≡◌, ap, ◌∙◌, sym, subst, ℕ, suc, ◌+◌, ◌-◌, ◌/◌, ◌%◌, ◌≤◌, ◌<◌, add-zero, add-one, arith, length, take, drop, set, get_or, take-suc-set, take-suc, take-add, drop_at, length-take-le}
+use Rattle.std.proofs.Math.Nat.{sub-zero, sub_self}
+use Rattle.std.proofs.Math.Seq.{append_snoc, take-set-le, take-length, set_split}
 use Rattle.io.specs.Digits.{last_digits as digits}
 use Rattle.text.specs.Put.{Put, joined}
 use Rattle.text.proofs.Decimal.{last_digits}

@@ -1,9 +1,13 @@
 // Bytes as signed numbers, and numbers and words as text: what the programs read and write.
 #![tactic(auto)]
 
-ghost use Rattle.std.specs.Prelude.{◌≡◌, ◌+◌, ◌%◌, ◌≤◌, ◌<◌, [], ◌∷◌, length};
+ghost use Rattle.std.specs.Prelude.{◌≡◌, ◌+◌, ◌%◌, ◌≤◌, ◌<◌, [], ◌∷◌, length, take, false};
+ghost use Rattle.std.specs.Io.KnownBytes.{Appends, Consumes, IsAtEnd};
+ghost use Rattle.io.specs.Counts.{IsPrefixLen};
 ghost use Rattle.text.specs.Decimal.{natural, decimal, signed_byte};
 ghost use Rattle.text.specs.Put.{Put, Places};
+
+use std::io::{Read, Write};
 
 // The byte as a signed number of eight bits.
 pub fn signed_byte(b: u8) -> i8
@@ -106,22 +110,60 @@ pub fn put_count(n: u64, out: &mut [u8], at: usize) -> usize
     put_word(&spelt[..k], out, at)
 }
 
-// A write's receipt: how many bytes were handed over, and whether that failed, as io::write_all says. No contract can say what
-// goes out, so the contracts of those that write speak of their receipts.
+// A write's receipt: how many bytes were handed over, and whether that failed. No contract can say what goes out of the process, so the
+// contracts of those that write speak of their receipts, and of what the writer holds, where that is known.
 #[derive(Clone, Copy)]
 pub struct Written {
     pub bytes: usize,
     pub failed: bool,
 }
 
-// Writes the first n bytes of out to the descriptor.
-pub fn write_front(fd: i32, out: &[u8], n: usize) -> Written
+// Writes the first n bytes of out to the writer.
+pub fn write_front<W: Write>(to: &mut W, out: &[u8], n: usize) -> Written
     requires { n ≤ length out.now }
-    ensures { result.bytes ≡ n }
+    ensures bytes { result.bytes ≡ n }
+    ensures written { result.failed ≡ false → Appends (W.contents to.old) (W.contents to.new) (take n out.now) }
 {
-    let is_written = io::write_all(fd, &out[..n]);
+    let is_written = to.write_all(&out[..n]).is_ok();
     Written {
         bytes: n,
         failed: !is_written,
+    }
+}
+
+// A read's receipt: how many bytes lie at the front of the buffer, and whether a read failed.
+#[derive(Clone, Copy)]
+pub struct Filled {
+    pub bytes: usize,
+    pub failed: bool,
+}
+
+// Reads until buf is full, the input ends or a read fails. A read that a signal interrupts counts as one that failed.
+pub fn read_full<R: Read>(from: &mut R, buf: &mut [u8]) -> Filled
+    ensures prefix_len { IsPrefixLen result.bytes buf.new }
+    ensures bytes { Consumes (R.remaining from.old) (R.remaining from.new) (take result.bytes buf.new) }
+    ensures end { result.failed ≡ false → result.bytes < length buf.new → IsAtEnd (R.remaining from.new) }
+{
+    let mut done = 0;
+    while done < buf.len() {
+        match from.read(&mut buf[done..]) {
+            Ok(0) => {
+                return Filled {
+                    bytes: done,
+                    failed: false,
+                };
+            }
+            Ok(n) => done += n,
+            Err(_) => {
+                return Filled {
+                    bytes: done,
+                    failed: true,
+                };
+            }
+        }
+    }
+    Filled {
+        bytes: done,
+        failed: false,
     }
 }
