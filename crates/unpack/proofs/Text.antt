@@ -1,14 +1,6 @@
 -- Laws of the program's text, and the theorem that specs/Text.antt states. Assumes nothing.
-use mathlib.Core.Bool.{true, false}
-use mathlib.Core.List.{List, [], ◌∷◌, ◌++◌, append_assoc, append-nil}
-use mathlib.Core.Path.{◌≡◌, refl, ap, ◌∙◌, sym}
-use Prim.Native.Nat.{ℕ, zero, suc, ◌+◌, ◌≤◌, ◌<◌}
-use native.Mathlib.Numerals.{add-one}
-use native.Mathlib.Omega.{arith}
-use lib.IntN.{ℤ, pos}
-use lib.ListN.{length, take, drop, get_or, drop_of_length-le}
-use lib.Seq.{drop-cons, drop-length}
-use borrow.Author.Tests.{ne_eqb}
+use Rattle.std.proofs.Common.{true, false, List, [], ◌∷◌, ◌++◌, append_assoc, append-nil, ◌≡◌, refl, ap, ◌∙◌, sym, ℕ, zero, suc, ◌+◌, ◌≤◌, ◌<◌, add-one, arith, ℤ, pos, length, take, drop, get_or, drop_of_length-le, drop-cons, ne_eqb}
+use Rattle.std.proofs.Math.Seq.{drop-length}
 use Rattle.io.proofs.Counting.{prefix_len_of_le}
 use Rattle.io.specs.Counts.{IsPrefixLen}
 use Rattle.intops.specs.Choice.{eq_z}
