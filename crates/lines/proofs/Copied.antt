@@ -1,12 +1,6 @@
 -- Elements put at the front of a buffer, one by one. Assumes nothing.
-use mathlib.Core.List.{List}
-use mathlib.Core.Path.{◌≡◌}
-use Prim.Native.Nat.{ℕ, ◌+◌, ◌<◌}
-use native.Mathlib.Nat.{zero-add}
-use native.Mathlib.Numerals.{add-one}
-use native.Mathlib.Omega.{arith}
-use lib.ListN.{length, get_or, set}
-use lib.Seq.{paste-suc}
+use Rattle.std.proofs.Common.{List, ◌≡◌, ℕ, ◌+◌, ◌<◌, zero-add, add-one, arith, length, get_or, set}
+use Rattle.std.proofs.Math.Seq.{paste-suc}
 use Rattle.lines.specs.Line.{put_in}
 
 -- of any element; z stands for one that is not there

@@ -1,13 +1,6 @@
 -- Laws of the reader. Assumes nothing.
-use mathlib.Core.Bool.{false, not}
-use mathlib.Core.List.{List}
-use mathlib.Core.Path.{◌≡◌, refl}
-use Prim.Native.Nat.{ℕ, zero, suc, ◌+◌, ◌-◌, ◌<◌, ◌≤◌}
-use native.Mathlib.Omega.{arith}
-use lib.Dec.{eqb}
-use lib.IntN.{ℤ}
-use lib.ListN.{length, get_or}
-use borrow.Author.Tests.{lt-ltb, le-ltb, eq-eqb, ne_eqb, eqb-true, eqb-false, not-false}
+use Rattle.std.proofs.Common.{false, not, List, ◌≡◌, refl, ℕ, zero, suc, ◌+◌, ◌-◌, ◌<◌, ◌≤◌, arith, eqb, ℤ, length, get_or, lt-ltb, le-ltb, eq-eqb, ne_eqb, eqb-true}
+use borrow.Author.Tests.{eqb-false, not-false}
 use Rattle.intops.proofs.Tests.{or_neither}
 use Rattle.lines.specs.declared.State.{State}
 use Rattle.lines.specs.Line.{nothing, all_read, newline, at_start, in_word, at_number, in_digits, finds, bytes, refused, start_step, word_step, number_step, digits_step, comment_step, Reader, with_word, with_numbers, with_state, step, taken, unless_found, steps_from, steps, end_input, given, ReadSome, Reads, never, found, then, is_last}

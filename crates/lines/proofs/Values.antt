@@ -1,14 +1,7 @@
 -- Digits, and the number of a sign and a magnitude: when it fits, and when not. Assumes nothing.
-use mathlib.Core.Bool.{Bool, true, false, ◌&&◌}
-use mathlib.Core.Path.{◌≡◌, refl, sym}
-use Prim.Native.Nat.{ℕ, zero, suc, ◌+◌, ◌*◌, ◌%◌, ◌^◌, ◌≤◌, ◌<◌}
-use native.Mathlib.Omega.{arith}
-use lib.Dec.{leb, eqb}
-use lib.IntN.{pos, neg_ℤ, ◌-ℤ◌}
+use Rattle.std.proofs.Common.{Bool, true, false, ◌&&◌, ◌≡◌, refl, sym, ℕ, zero, suc, ◌+◌, ◌*◌, ◌%◌, ◌^◌, ◌≤◌, ◌<◌, arith, leb, eqb, pos, neg_ℤ, ◌-ℤ◌, w64, SFits, to_z, of_z, le-leb, leb-true, eqb-true}
 use denote.Enum.Declared.{tag_of}
-use mir.Syntax.{w64}
-use mir.Val.{SFits, to_z, of_z}
-use borrow.Author.Tests.{le-leb, lt-leb, leb-true, eqb-true, eqb-false}
+use borrow.Author.Tests.{lt-leb, eqb-false}
 use Rattle.intops.proofs.Signed.{signed, back, ud_minus, zero_minus}
 use Rattle.intops.proofs.Tests.{and_both}
 use Rattle.lines.specs.Line.{is_digit, digit, in_digits, goes_to, reading, refused, push_digit, value_of}
