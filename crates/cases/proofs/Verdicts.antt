@@ -1,8 +1,5 @@
 -- Laws of verdicts, and of numbers within their fields. Assumes nothing.
-use mathlib.Core.Bool.{Bool, true, false, not, true≢false}
-use mathlib.Core.Path.{◌≡◌, refl, sym, ◌∙◌}
-use Prim.Native.Nat.{ℕ, ◌≤◌}
-use lib.IntN.{ℤ, pos, nat_abs}
+use Rattle.std.proofs.Common.{Bool, true, false, not, true≢false, ◌≡◌, refl, sym, ◌∙◌, ℕ, ◌≤◌, ℤ, pos, nat_abs}
 use lib.Signed.{lt_z}
 use borrow.Author.Tests.{not-false}
 use Rattle.intops.proofs.Signed.{signed, ud}
