@@ -1,6 +1,5 @@
 -- Laws of vectors and of answers that are stated. Assumes nothing.
-use mathlib.Core.Path.{◌≡◌, sym, ap, ◌∙◌}
-use lib.IntN.{ℤ, pos}
+use Rattle.std.proofs.Common.{◌≡◌, sym, ap, ◌∙◌, ℤ, pos}
 use Rattle.levels.specs.Answer.{Said}
 use Rattle.levels.specs.declared.Mv.{Mv}
 use Rattle.levels.specs.declared.QMv.{QMv}
