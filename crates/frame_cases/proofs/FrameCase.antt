@@ -1,18 +1,12 @@
 -- Laws of the kind `frame`: the header and the record by their parts. Assumes nothing.
-use mathlib.Core.Path.{◌≡◌}
-use mathlib.Core.Bool.{Bool}
-use mathlib.Core.List.{List}
-use Prim.Native.Nat.{ℕ, ◌+◌}
-use lib.IntN.{ℤ, pos, nat_abs}
-use lib.ListN.{set}
+use Rattle.std.proofs.Common.{◌≡◌, Bool, List, ℕ, ◌+◌, ℤ, pos, nat_abs, set}
 use Rattle.levels.specs.declared.OrderHint.{OrderHint}
 use Rattle.picks.specs.declared.Saved.{Saved}
 use Rattle.picks.specs.declared.Pocs.{Pocs}
 use Rattle.entry.specs.declared.Source.{Source}
 use Rattle.frame.specs.declared.Header.{Header}
 use Rattle.frame.specs.declared.Frame.{Frame}
-use Rattle.cases.specs.Numbers.{at, hint}
-use Rattle.cases.specs.Numbers.{is_on}
+use Rattle.cases.specs.Numbers.{at, hint, is_on}
 use Rattle.frame_cases.specs.FrameCase.{hints_at, all_saved, switches_at, pocs_of, header_of, bit, bits, bytes, in_i64, put_seven, put_source, put_sources, put_head, put_frame}
 
 -- the saved hints h, and their count

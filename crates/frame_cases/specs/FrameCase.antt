@@ -1,6 +1,6 @@
 -- What a verdict that a case of the kind `frame` agrees says of its line: a header, a refusal's number and a record, fields and elements in
 -- the order of include/refmvs.h. Assumes nothing.
-use Rattle.std.specs.Prelude.{◌≡◌, Bool, false, List, [], ℕ, ◌+◌, ◌*◌, ◌<◌, min, ℤ, pos, negsuc, nat_abs, get_or, set, replicate}
+use Rattle.std.specs.Prelude.{◌≡◌, Bool, false, List, [], ℕ, ◌+◌, ◌*◌, ◌<◌, min, ℤ, pos, nat_abs, get_or, set, replicate}
 use mir.Val.{bool_byte}
 use Rattle.loops.specs.Over.{span}
 use Rattle.loops.specs.Seven.{seven}

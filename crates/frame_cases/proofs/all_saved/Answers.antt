@@ -1,0 +1,21 @@
+-- `frame_cases::all_saved` meets its contract. Assumes nothing.
+use Rattle.std.proofs.Common.{refl, ◌+◌, ◌*◌, arith}
+use Rattle.loops.proofs.Seven.{stored, all_stored}
+use Rattle.frame_cases.specs.FrameCase.{saved_at, all_saved}
+use Rattle.frame_cases.proofs.all_saved.Goals as goal
+
+pub loop-i-init : goal.loop-i-init
+loop-i-init c = (omega arith, refl)
+
+pub saved_at-s-requires : goal.saved_at-s-requires
+saved_at-s-requires c = (omega arith, λ j h l. c.requires.1 j (omega arith) (omega arith))
+
+pub loop-i-preserved : goal.loop-i-preserved
+loop-i-preserved c =
+    let l = c.loop-i in
+    let n = c.args.n.now in
+    (omega arith, stored (λ i. saved_at n (20 + 8 * i)) l.i l.out _ _ c.loop-i-test.true c.saved_at-s.ensures l.invariant.1)
+
+pub returns : goal.returns
+unfolding all_saved
+returns c = all_stored _ _ _ _ c.loop-i-test.false c.loop-i.invariant.1

@@ -1,0 +1,34 @@
+-- `frame_cases::put_head` meets its contract. Assumes nothing.
+use Rattle.std.proofs.Common.{◌≡◌, w8, w32, w64, SFits, rules}
+use borrow.Author.Rules.{sfits_of}
+use Rattle.intops.proofs.Signed.{back}
+use Rattle.frame_cases.proofs.FrameCase.{head_is}
+use Rattle.frame_cases.proofs.put_head.Goals.{Start}
+use Rattle.frame_cases.proofs.put_head.Goals as goal
+
+-- the signed fields fit
+known : (s : Start) → SFits w8 s.args.f.tip0 × SFits w8 s.args.f.tip1 × SFits w8 s.args.f.tip.delta × SFits w32 s.args.f.tip.sf0 × SFits w32 s.args.f.tip.sf1
+known s = search rules
+
+pub returns : goal.returns
+returns c =
+    let f = c.args.f in
+    let (f6, f7, f8, f9, f10) = known (goal.at.returns c).Start in
+    let g0 : SFits w64 c.of_u64.result = sfits_of c.of_u64.type_inv in
+    let g1 : SFits w64 c.of_u64-2.result = sfits_of c.of_u64-2.type_inv in
+    let g2 : SFits w64 c.of_u64-3.result = sfits_of c.of_u64-3.type_inv in
+    let g3 : SFits w64 c.of_u8.result = sfits_of c.of_u8.type_inv in
+    let g4 : SFits w64 c.of_u8-2.result = sfits_of c.of_u8-2.type_inv in
+    let g5 : SFits w64 c.of_u8-3.result = sfits_of c.of_u8-3.type_inv in
+    let g6 : SFits w64 c.of_i8.result = sfits_of c.of_i8.type_inv in
+    let g7 : SFits w64 c.of_i8-2.result = sfits_of c.of_i8-2.type_inv in
+    let g8 : SFits w64 c.of_i8-3.result = sfits_of c.of_i8-3.type_inv in
+    let g9 : SFits w64 c.of_i32.result = sfits_of c.of_i32.type_inv in
+    let g10 : SFits w64 c.of_i32-2.result = sfits_of c.of_i32-2.type_inv in
+    let g11 : SFits w64 c.of_u64-4.result = sfits_of c.of_u64-4.type_inv in
+    let e6 : c.of_i8.result ≡ f.tip0 = simp back at c.of_i8.ensures in
+    let e7 : c.of_i8-2.result ≡ f.tip1 = simp back at c.of_i8-2.ensures in
+    let e8 : c.of_i8-3.result ≡ f.tip.delta = simp back at c.of_i8-3.ensures in
+    let e9 : c.of_i32.result ≡ f.tip.sf0 = simp back at c.of_i32.ensures in
+    let e10 : c.of_i32-2.result ≡ f.tip.sf1 = simp back at c.of_i32-2.ensures in
+    simp back (head_is f c.args.out.now c.of_u64.ensures c.of_u64-2.ensures c.of_u64-3.ensures c.of_u8.ensures c.of_u8-2.ensures c.of_u8-3.ensures e6 e7 e8 e9 e10 c.of_u64-4.ensures)
