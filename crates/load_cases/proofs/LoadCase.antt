@@ -1,9 +1,5 @@
 -- Laws of a kept load: what a line asks by its parts, the call by what is asked, its verdict. Assumes nothing.
-use mathlib.Core.Path.{◌≡◌, ap, ◌∙◌, subst}
-use mathlib.Core.Bool.{Bool, true}
-use mathlib.Core.List.{List}
-use Prim.Native.Nat.{ℕ, ◌+◌}
-use lib.IntN.{ℤ, pos, nat_abs}
+use Rattle.std.proofs.Common.{◌≡◌, ap, ◌∙◌, subst, Bool, true, List, ℕ, ◌+◌, ℤ, pos, nat_abs}
 use Rattle.frame.specs.declared.Frame.{Frame}
 use Rattle.store.specs.Store.{Store}
 use Rattle.store.specs.Calls.{called}

@@ -1,9 +1,5 @@
 -- Laws of a setup: it and its parts, of the same by other names. Assumes nothing.
-use mathlib.Core.Path.{◌≡◌}
-use mathlib.Core.Bool.{Bool}
-use mathlib.Core.List.{List, [], ◌∷◌}
-use Prim.Native.Nat.{ℕ, ◌+◌}
-use lib.IntN.{ℤ, nat_abs}
+use Rattle.std.proofs.Common.{◌≡◌, Bool, List, [], ◌∷◌, ℕ, ◌+◌, ℤ, nat_abs}
 use Rattle.entry.specs.declared.Source.{Source}
 use Rattle.frame.specs.declared.Tip.{Tip}
 use Rattle.frame.specs.declared.Sources.{Sources}
