@@ -1,11 +1,6 @@
 -- Laws of a kept pass: what its tests say of the tile, the pass of each kind, its verdict. Assumes nothing.
-use mathlib.Core.Path.{◌≡◌, refl, sym, ap, ◌∙◌, subst}
-use mathlib.Core.Bool.{Bool, true, false, not}
-use mathlib.Core.List.{List, []}
-use Prim.Native.Nat.{ℕ, ◌*◌, ◌≤◌, ◌<◌}
-use borrow.Author.Tests.{ne_eqb, lt-ltb, le-ltb}
-use lib.IntN.{ℤ, pos, negsuc, nat_abs}
-use lib.ListN.{length, replicate, length-replicate}
+use Rattle.std.proofs.Common.{◌≡◌, sym, ap, ◌∙◌, subst, Bool, true, false, not, List, [], ℕ, ◌*◌, ◌≤◌, ◌<◌, ne_eqb, lt-ltb, le-ltb, ℤ, pos, negsuc, nat_abs, length, replicate}
+use Rattle.std.proofs.Math.ListN.{length-replicate}
 use Rattle.intops.specs.Bounds.{Within}
 use Rattle.intops.proofs.Signed.{signed, ud, within_of}
 use Rattle.frame.specs.declared.Frame.{Frame}
