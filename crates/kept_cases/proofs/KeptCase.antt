@@ -1,13 +1,5 @@
 -- Laws of lists that are copied out of a line's numbers. Assumes nothing.
-use mathlib.Core.List.{List}
-use mathlib.Core.Path.{◌≡◌, refl, sym, ◌∙◌}
-use Prim.Native.Nat.{ℕ, ◌+◌, ◌≤◌, ◌<◌}
-use native.Mathlib.Omega.{arith}
-use lib.IntN.{ℤ, pos, negsuc, nat_abs}
-use lib.ListN.{length, get_or, set, take, length-set}
-use lib.Signed.{◌≤ℤ◌}
-use lib.Seq.{get_or-set_same, get_or-set_other, get_or-take, length-take-le}
-use borrow.Author.Count.{below_more}
+use Rattle.std.proofs.Common.{List, ◌≡◌, refl, sym, ◌∙◌, ℕ, ◌+◌, ◌<◌, arith, ℤ, pos, negsuc, nat_abs, length, get_or, set, take, length-set, ◌≤ℤ◌, get_or-set_same, get_or-set_other, get_or-take, length-take-le, below_more}
 use Rattle.intops.proofs.Signed.{signed}
 use Rattle.cases.specs.Numbers.{at}
 use Rattle.store.specs.Store.{pack}
