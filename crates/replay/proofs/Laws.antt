@@ -1,6 +1,6 @@
 -- Laws of the kinds' words, and of what is made of a line. Assumes nothing.
 use Rattle.std.proofs.Common.{◌≡◌, ℕ, zero, suc, ◌+◌, ◌-◌, ◌%◌, ◌^◌, ◌<◌, ◌≤◌, min, Bool, true, false, cond, eqb, ltb, leb, List, [], length, get_or, take, drop, ℤ, refl, ◌∙◌, add-one, arith, leb→le, length-take-le, take_all, take_at, ltb-false, ltb-true, eq-eqb, ne_eqb}
-use lib.ListN.{get_or-eq_default}
+use Rattle.std.proofs.Math.ListN.{get_or-eq_default}
 use Rattle.intops.proofs.Table.{at}
 use Rattle.cases.specs.declared.Verdict.{Verdict}
 use Rattle.cases.specs.declared.Verdict.TheVariants.{Agrees, Differs, NotACase}

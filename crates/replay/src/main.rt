@@ -13,7 +13,8 @@
 // Ends at the first case that differs, or that cannot be read.
 #![tactic(auto)]
 
-ghost use Rattle.std.specs.Prelude.{◌≡◌, ◌+◌, ◌≤◌, length, take, if◌then◌else◌, ◌≢◌, nat_eq};
+ghost use Rattle.std.specs.Prelude.{false, ◌≡◌, ◌+◌, ◌≤◌, length, take, if◌then◌else◌, ◌≢◌, nat_eq};
+ghost use Rattle.std.specs.Io.KnownBytes.{Appends};
 ghost use Rattle.text.specs.Put.{Put};
 ghost use Rattle.lines.specs.Line.{counted_up, no_tallies};
 ghost use Rattle.replay.specs.Kinds.{Holds, Taken, running, ended, end_of};
@@ -23,8 +24,8 @@ ghost use Rattle.replay.specs.Run.{kept, Turned, Ended};
 mod kinds;
 
 use cases::Verdict;
-use libc::STDOUT_FILENO;
 use lines::{State, report};
+use std::io::{Read, Write};
 use text::Written;
 
 // How a line has ended the run, if it has.
@@ -78,6 +79,7 @@ fn take_line(s: State, word: &[u8], numbers: &[i64], tallies: &mut [u64]) -> usi
 }
 
 // The last line of the report.
+#[tactic(auto, unfolding(crate::specs::Report::end_text))]
 fn put_end(ended: usize, sum: u64, line: u64, word: &[u8], out: &mut [u8], at: usize) -> usize
     requires { (length word.now ≤ 16) × (at + 52 ≤ length out.old) }
     ensures { Put out.old at 52 (end_text ended sum line word.now) out.new result }
@@ -95,6 +97,7 @@ fn put_end(ended: usize, sum: u64, line: u64, word: &[u8], out: &mut [u8], at: u
 }
 
 // The kinds' lines and the last. Of letters beyond the end of word there are none to show.
+#[tactic(auto, unfolding(crate::specs::Report::report_text))]
 fn put_report(ended: usize, s: State, word: &[u8], tallies: &[u64], out: &mut [u8]) -> usize
     requires { (length word.now ≤ 16) × (420 ≤ length out.old) }
     ensures { Put out.old 0 420 (report_text ended s word.now tallies.now) out.new result }
@@ -109,19 +112,26 @@ fn put_report(ended: usize, s: State, word: &[u8], tallies: &[u64], out: &mut [u
 }
 
 // Writes the report on the end of a run, and on nothing else.
-fn write_end(last: Turn, word: &[u8], tallies: &[u64], out: &mut [u8]) -> Written
+fn write_end<W: Write>(
+    to: &mut W,
+    last: Turn,
+    word: &[u8],
+    tallies: &[u64],
+    out: &mut [u8],
+) -> Written
     requires { (length word.now ≤ 16) × (420 ≤ length out.old) × Ended last word.now tallies.now }
-    ensures { take result.bytes out.new ≡ report_text last.ended last.state word.now tallies.now }
+    ensures handed { take result.bytes out.new ≡ report_text last.ended last.state word.now tallies.now }
+    ensures written { result.failed ≡ false → Appends (W.contents to.old) (W.contents to.new) (report_text last.ended last.state word.now tallies.now) }
 {
     let n = put_report(last.ended, last.state, word, tallies, out);
-    text::write_front(STDOUT_FILENO, out, n)
+    text::write_front(to, out, n)
 }
 
-fn print_end(last: Turn, word: &[u8], tallies: &[u64])
+fn print_end<W: Write>(to: &mut W, last: Turn, word: &[u8], tallies: &[u64])
     requires { (length word.now ≤ 16) × Ended last word.now tallies.now }
 {
     let mut out = [0u8; 420];
-    write_end(last, word, tallies, &mut out);
+    write_end(to, last, word, tallies, &mut out);
 }
 
 // A turn's receipt: how many turns may follow, what the reader found, and how it has ended the run.
@@ -133,7 +143,8 @@ pub struct Turn {
 }
 
 // Reads the line after s and takes it.
-fn take_next(
+fn take_next<R: Read>(
+    from: &mut R,
     left: u64,
     s: State,
     input: &mut [u8],
@@ -143,29 +154,57 @@ fn take_next(
 ) -> Turn
     ensures { (result.left ≡ left) × Turned s (kept input.old word.old tallies.old) result (kept input.new word.new tallies.new) }
 {
-    let state = lines::next_line(s, input, word, numbers);
+    let state = lines::next_line(s, from, input, word, numbers);
     let ended = take_line(state, word, numbers, tallies);
     Turn { left, state, ended }
 }
 
 // Takes line after line, until one ends the run. Turns are counted down, as in lines::next_line.
-fn take_all(input: &mut [u8], word: &mut [u8], numbers: &mut [i64], tallies: &mut [u64]) -> Turn
+fn take_all<R: Read>(
+    from: &mut R,
+    input: &mut [u8],
+    word: &mut [u8],
+    numbers: &mut [i64],
+    tallies: &mut [u64],
+) -> Turn
     requires { tallies.old ≡ no_tallies }
     ensures { Ended result word.new tallies.new }
 {
-    let mut turn = take_next(u64::MAX, lines::start(), input, word, numbers, tallies);
+    let mut turn = take_next(
+        from,
+        u64::MAX,
+        lines::start(),
+        input,
+        word,
+        numbers,
+        tallies,
+    );
     while !lines::is_last(turn.left, turn.ended) {
-        turn = take_next(turn.left - 1, turn.state, input, word, numbers, tallies);
+        turn = take_next(
+            from,
+            turn.left - 1,
+            turn.state,
+            input,
+            word,
+            numbers,
+            tallies,
+        );
     }
     turn
 }
 
 // Makes the buffers once, and lends them.
-fn main() {
+fn main(rt: HostRuntime) {
     let mut input = io::large_buffer();
     let mut word = [0u8; 16];
     let mut numbers = [0i64; 1024];
     let mut tallies = [0u64; 32];
-    let last = take_all(&mut input, &mut word, &mut numbers, &mut tallies);
-    print_end(last, &word, &tallies);
+    let last = take_all(
+        &mut rt.stdin(),
+        &mut input,
+        &mut word,
+        &mut numbers,
+        &mut tallies,
+    );
+    print_end(&mut rt.stdout(), last, &word, &tallies);
 }
