@@ -1,7 +1,5 @@
 -- Rows of a frame of at most 256 by 256 cells lie within the program's buffers. Assumes nothing.
-use Prim.Native.Nat.{ℕ, ◌+◌, ◌*◌, ◌≤◌, ◌<◌}
-use native.Mathlib.Nat.{mul-le-mul}
-use native.Mathlib.Omega.{arith}
+use Rattle.std.proofs.Common.{ℕ, ◌+◌, ◌*◌, ◌≤◌, ◌<◌, mul-le-mul, arith}
 use Rattle.loops.proofs.Turns.{row_within}
 
 pub cells_low : (h stride : ℕ) → h ≤ 256 → stride ≤ 256 → h * stride ≤ 65536

@@ -1,12 +1,5 @@
 -- Planes of a file: those of the slots below, and where a plane ends. Assumes nothing.
-use mathlib.Core.Bool.{Bool, true, false, cond}
-use mathlib.Core.List.{List}
-use mathlib.Core.Path.{◌≡◌, refl, ap, ◌∙◌}
-use Prim.Native.Nat.{ℕ, zero, suc, ◌+◌, ◌-◌, ◌*◌, ◌≤◌, ◌<◌}
-use native.Mathlib.Nat.{add-zero, mul-le-mul}
-use native.Mathlib.Numerals.{add-one}
-use native.Mathlib.Omega.{arith}
-use lib.ListN.{get_or}
+use Rattle.std.proofs.Common.{Bool, true, false, cond, List, ◌≡◌, ap, ◌∙◌, ℕ, zero, suc, ◌+◌, ◌-◌, ◌*◌, ◌≤◌, ◌<◌, add-zero, mul-le-mul, add-one, arith, get_or}
 use Rattle.loops.proofs.Turns.{row_within}
 use Rattle.framefile.specs.File.{present_before, plane_at}
 use Rattle.framefile.proofs.Bounds.{cells_low}
