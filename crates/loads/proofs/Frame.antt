@@ -1,16 +1,7 @@
 -- Laws of the loads of a frame, and the theorem that specs/Frame.antt states. Assumes nothing.
-use mathlib.Core.Path.{◌≡◌, refl, ap, ◌∙◌, sym}
-use mathlib.Core.Bool.{Bool, true, false, cond}
-use mathlib.Core.List.{List, [], ◌∷◌, ◌++◌}
-use Prim.Native.Nat.{ℕ, suc, ◌+◌, ◌-◌, ◌*◌, ◌/◌, ◌≤◌, ◌<◌}
-use native.Mathlib.Nat.{mul-div-le, mul_comm, div-le_self}
-use native.Mathlib.Numerals.{add-one}
-use native.Mathlib.Omega.{arith}
-use lib.Dec.{eqb}
-use lib.IntN.{ℤ}
-use lib.ListN.{length, get_or, drop, drop_of_length-le}
-use lib.Seq.{drop-cons}
-use borrow.Author.Tests.{eq-eqb, ne_eqb, eqb-false}
+use Rattle.std.proofs.Common.{◌≡◌, refl, ap, ◌∙◌, sym, Bool, true, false, cond, List, [], ◌∷◌, ◌++◌, ℕ, suc, ◌+◌, ◌-◌, ◌*◌, ◌/◌, ◌≤◌, ◌<◌, mul_comm, div-le_self, add-one, arith, eqb, ℤ, length, get_or, drop, drop_of_length-le, drop-cons, eq-eqb, ne_eqb}
+use Rattle.std.proofs.Math.Nat.{mul-div-le}
+use borrow.Author.Tests.{eqb-false}
 use Rattle.frame.specs.declared.Frame.{Frame}
 use Rattle.store.specs.Store.{Store, SameLengths}
 use Rattle.store.specs.Calls.{called, as_listed}
@@ -20,7 +11,7 @@ use Rattle.load.specs.Load.{Call, side_of, high_of}
 use Rattle.load.specs.Calls.{answer, load}
 use Rattle.load.proofs.Accepted.{side_low_lem}
 use Rattle.checks.specs.Answer.{call_of}
-use Rattle.loads.specs.Frame.{row_calls, rows_calls, rows_of, frame_calls, After, after, until_refused, NoneRefused}
+use Rattle.loads.specs.Frame.{row_calls, rows_calls, rows_of, after, until_refused, NoneRefused}
 
 -- ---- a call and those that follow
 
