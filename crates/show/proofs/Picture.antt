@@ -1,13 +1,6 @@
 -- Laws of colours, and the theorem that specs/Picture.antt states. Assumes nothing.
-use mathlib.Core.Bool.{Bool, true, false, ◌&&◌}
-use mathlib.Core.Path.{◌≡◌, refl, ap, ◌∙◌, sym}
-use Prim.Native.Nat.{ℕ, ◌+◌, ◌-◌, ◌*◌, ◌%◌, ◌≤◌, ◌<◌}
-use native.Mathlib.Nat.{zero-mul}
-use native.Mathlib.Omega.{arith}
-use lib.Dec.{ltb}
-use lib.IntN.{ℤ, pos, nat_abs}
+use Rattle.std.proofs.Common.{Bool, true, false, ◌&&◌, ◌≡◌, refl, ℕ, ◌+◌, ◌≤◌, zero-mul, arith, ltb, ℤ, pos, nat_abs, ne_eqb}
 use lib.Signed.{le_z, lt_z}
-use borrow.Author.Tests.{ltb-true, ltb-false, ne_eqb}
 use Rattle.show.specs.declared.Colour.{Colour}
 use Rattle.show.specs.Picture.{length_of, part, hue_of, wheel, bright_of, dimmed, dimmed_all, colour_of, Grey, NeverGrey}
 
