@@ -1,3 +1,4 @@
+pub mod Joined
 pub mod Parts
 pub mod Shows
 pub mod Tests

@@ -1,11 +1,5 @@
 -- What the functions work out, as the definitions have it. Assumes nothing.
-use mathlib.Core.Bool.{Bool}
-use mathlib.Core.List.{List}
-use mathlib.Core.Path.{◌≡◌, refl, ap}
-use Prim.Native.Nat.{ℕ, suc, ◌*◌, ◌/◌, ◌≤◌}
-use native.Mathlib.Omega.{arith}
-use lib.IntN.{ℤ, pos}
-use lib.ListN.{replicate}
+use Rattle.std.proofs.Common.{Bool, List, ◌≡◌, refl, ap, ℕ, suc, ◌*◌, ◌/◌, ◌≤◌, arith, ℤ, pos, replicate}
 use Rattle.frame.specs.declared.Frame.{Frame}
 use Rattle.frame.specs.declared.Header.{Header}
 use Rattle.frame.specs.declared.Setup.{Setup}

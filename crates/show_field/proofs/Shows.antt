@@ -1,8 +1,5 @@
 -- What comes of a file, by the problem that its tests have found. Assumes nothing.
-use mathlib.Core.Bool.{false, cond}
-use mathlib.Core.List.{List}
-use mathlib.Core.Path.{◌≡◌, sym}
-use Prim.Native.Nat.{ℕ}
+use Rattle.std.proofs.Common.{false, cond, List, ◌≡◌, sym, ℕ}
 use Rattle.show_field.specs.declared.Shown.{Shown}
 use Rattle.show_field.specs.declared.Wanted.{Wanted}
 use Rattle.show_field.specs.declared.problems.Problem.{Problem}

@@ -1,11 +1,5 @@
 -- Which problem a file has, test by test. Assumes nothing.
-use mathlib.Core.Bool.{Bool, true, false, cond}
-use mathlib.Core.List.{List}
-use mathlib.Core.Path.{◌≡◌, refl}
-use Prim.Native.Nat.{ℕ, ◌≤◌, ◌<◌}
-use lib.Dec.{eqb, ltb}
-use lib.ListN.{length}
-use borrow.Author.Tests.{lt-ltb, le-ltb, eq-eqb, ne_eqb}
+use Rattle.std.proofs.Common.{true, false, List, ◌≡◌, refl, ℕ, ◌≤◌, ◌<◌, length, lt-ltb, le-ltb, eq-eqb, ne_eqb}
 use Rattle.frame.specs.declared.Said.{Said}
 use Rattle.frame.specs.declared.Said.TheVariants.{Accepted, TooManyBits, TooManySlots, BadSuperblock, BadStep, BadSize, BadTipSlot}
 use Rattle.frame.specs.Frame.{number_of}

@@ -1,10 +1,5 @@
 -- Words are told apart. Assumes nothing.
-use mathlib.Core.Bool.{Bool, true, false, ◌&&◌, true≢false}
-use mathlib.Core.List.{List, [], ◌∷◌}
-use mathlib.Core.Path.{◌≡◌, ◌∙◌, refl, sym}
-use Prim.Native.Nat.{ℕ}
-use lib.Dec.{eqb}
-use borrow.Author.Tests.{eqb-true, eq-eqb}
+use Rattle.std.proofs.Common.{Bool, true, false, ◌&&◌, true≢false, List, [], ◌∷◌, ◌≡◌, ◌∙◌, refl, sym, ℕ, eqb, eqb-true, eq-eqb}
 use Rattle.show_field.specs.Asked.{is_word}
 
 is_itself : (a : List ℕ) → is_word a a ≡ true

@@ -1,4 +1,4 @@
--- What the program's arguments ask for (docs/FRAME_FILE.md). Which arguments the program gets, `os::arg` answers; nothing is proved of that. Assumes nothing.
+-- What the program's arguments ask for (docs/FRAME_FILE.md). Which arguments the program gets, `Env::arg` answers; nothing is proved of that. Assumes nothing.
 use Rattle.std.specs.Prelude.{Bool, true, false, cond, ◌&&◌, List, [], ◌∷◌, ℕ, ltb, eqb}
 use Rattle.text.specs.Ascii.{ascii}
 use Rattle.show_field.specs.declared.Wanted.{Wanted}

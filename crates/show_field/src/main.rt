@@ -12,8 +12,9 @@ ghost use Rattle.show_field.specs.Asked.{asked};
 ghost use Rattle.show_field.specs.Shown.{file_frame, end_of, bad_columns, load_problem, rest_problem, problem_of, unshown_of, Shows};
 
 use frame::Frame;
-use libc::STDIN_FILENO;
 use problems::Problem;
+use std::env::{Env, FillError};
+use std::io::{Read, Write};
 use write::Sent;
 
 #[derive(Clone, Copy)]
@@ -24,6 +25,7 @@ pub enum Wanted {
 }
 
 // count: how many arguments there are, with the program's own name; arg: the first after the name.
+#[tactic(auto, unfolding(crate::specs::Asked::asked))]
 fn wanted_of(count: usize, arg: &[u8]) -> Wanted
     ensures { result ≡ asked count arg.now }
 {
@@ -42,11 +44,40 @@ fn wanted_of(count: usize, arg: &[u8]) -> Wanted
     Wanted::Usage
 }
 
-// For an argument that is missing, or longer than 16 bytes, os::arg answers length 0: neither word.
-fn asked() -> Wanted {
+// Puts the first argument at the front of arg, and answers its length: 0 for one that is missing, or longer than arg.
+fn first_arg(rt: &impl Env, arg: &mut [u8]) -> usize
+    ensures { result ≤ length arg.new }
+{
+    match rt.arg(1, arg) {
+        Ok(n) => n,
+        Err(_) => 0,
+    }
+}
+
+fn has_arg(rt: &impl Env, i: usize) -> bool {
+    let mut start = [0u8; 1];
+    match rt.arg(i, &mut start) {
+        Err(FillError::NotPresent) => false,
+        _ => true,
+    }
+}
+
+// How many arguments there are, with the program's own name: 3 stands for more, too.
+fn arg_count(rt: &impl Env) -> usize {
+    if !has_arg(rt, 1) {
+        return 1;
+    }
+    if !has_arg(rt, 2) {
+        return 2;
+    }
+    3
+}
+
+// For an argument that is missing, or longer than 16 bytes, first_arg answers length 0: neither word.
+fn asked(rt: &impl Env) -> Wanted {
     let mut arg = [0u8; 16];
-    let n = os::arg(1, &mut arg);
-    wanted_of(os::arg_count(), &arg[..n])
+    let n = first_arg(rt, &mut arg);
+    wanted_of(arg_count(rt), &arg[..n])
 }
 
 // What came of a file: its problem, and the receipt of what was written.
@@ -67,7 +98,7 @@ fn unshown(problem: Problem) -> Shown
 }
 
 // Loads the field and writes it. The buffers hold frames up to 2048 x 2048 pixels.
-fn show_loaded(file: &[u8], f: Frame, w: Wanted) -> Shown
+fn show_loaded<W: Write>(to: &mut W, file: &[u8], f: Frame, w: Wanted) -> Shown
     requires { (problem_of file.now ≡ load_problem file.now) × (f ≡ file_frame file.now) × (f.width ≤ 2048) × (f.height ≤ 2048) × (end_of file.now ≤ length file.now) }
     ensures { Shows w file.now result }
 {
@@ -78,7 +109,7 @@ fn show_loaded(file: &[u8], f: Frame, w: Wanted) -> Shown
     if checks::number(said) != 0 {
         return unshown(Problem::Load(said));
     }
-    let sent = write::write_field(w, f, &field_y, &field_x, &field_ref);
+    let sent = write::write_field(to, w, f, &field_y, &field_x, &field_ref);
     if sent.failed {
         return Shown {
             problem: Problem::NotWritten,
@@ -103,7 +134,7 @@ fn bad_columns(file: &[u8], n: usize, wide: usize) -> bool
 }
 
 // The setup is accepted: tests of length and tile columns, then the loads.
-fn show_rest(file: &[u8], f: Frame, w: Wanted) -> Shown
+fn show_rest<W: Write>(to: &mut W, file: &[u8], f: Frame, w: Wanted) -> Shown
     requires { (problem_of file.now ≡ rest_problem file.now) × (f ≡ file_frame file.now) × (f.width ≤ 2048) × (f.height ≤ 2048) × (103 ≤ length file.now) }
     ensures { Shows w file.now result }
 {
@@ -120,10 +151,10 @@ fn show_rest(file: &[u8], f: Frame, w: Wanted) -> Shown
     if end < file.len() {
         return unshown(Problem::TooLong);
     }
-    show_loaded(file, f, w)
+    show_loaded(to, file, f, w)
 }
 
-fn show(file: &[u8], w: Wanted) -> Shown
+fn show<W: Write>(to: &mut W, file: &[u8], w: Wanted) -> Shown
     ensures { Shows w file.now result }
 {
     if file.len() < 103 {
@@ -144,7 +175,7 @@ fn show(file: &[u8], w: Wanted) -> Shown
     if 2048 < f.height {
         return unshown(Problem::TooLarge);
     }
-    show_rest(file, f, w)
+    show_rest(to, file, f, w)
 }
 
 // A function of its own: proofs take the length from its contract, and need not work out an array of that size.
@@ -155,22 +186,25 @@ fn no_file() -> [u8; 2753636]
 }
 
 // The longest file that is not too long has 255 tile columns and seven planes of 256 x 256 blocks; by one byte more a longer one is seen.
-fn show_input(w: Wanted, file: &mut [u8]) -> Problem
+fn show_input<R: Read, W: Write>(from: &mut R, to: &mut W, w: Wanted, file: &mut [u8]) -> Problem
     requires { 103 + 4 * 255 + 7 * (6 * (256 * 256)) < length file.old }
 {
-    let n = io::read_full(STDIN_FILENO, file);
-    let shown = show(&file[..n], w);
+    let n = text::read_full(from, file).bytes;
+    let shown = show(to, &file[..n], w);
     shown.problem
 }
 
-fn run(w: Wanted) -> Problem {
+fn run<R: Read, W: Write>(from: &mut R, to: &mut W, w: Wanted) -> Problem {
     let mut file = no_file();
-    show_input(w, &mut file)
+    show_input(from, to, w, &mut file)
 }
 
-fn main() {
-    match asked() {
-        Wanted::Usage => problems::tell(Problem::Usage),
-        w => problems::tell(run(w)),
+fn main(rt: HostRuntime) {
+    match asked(&rt) {
+        Wanted::Usage => problems::tell(&mut rt.stderr(), Problem::Usage),
+        w => {
+            let problem = run(&mut rt.stdin(), &mut rt.stdout(), w);
+            problems::tell(&mut rt.stderr(), problem);
+        }
     }
 }

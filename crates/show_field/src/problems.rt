@@ -5,7 +5,7 @@ ghost use Rattle.show_field.specs.Lines.{line, setup_line, load_line, line_of};
 
 use checks::LoadAnswer;
 use frame::Said;
-use libc::STDERR_FILENO;
+use std::io::Write;
 use text::Written;
 
 #[derive(Clone, Copy)]
@@ -102,15 +102,15 @@ fn put_line(p: Problem, out: &mut [u8]) -> usize
     }
 }
 
-fn write_line(p: Problem, out: &mut [u8]) -> Written
+fn write_line<W: Write>(to: &mut W, p: Problem, out: &mut [u8]) -> Written
     requires { 80 ≤ length out.old }
     ensures { take result.bytes out.new ≡ line_of p }
 {
     let n = put_line(p, out);
-    text::write_front(STDERR_FILENO, out, n)
+    text::write_front(to, out, n)
 }
 
-pub fn tell(p: Problem) {
+pub fn tell<W: Write>(to: &mut W, p: Problem) {
     let mut out = [0u8; 80];
-    write_line(p, &mut out);
+    write_line(to, p, &mut out);
 }

@@ -1,8 +1,9 @@
-// Writes a field to standard output: of a text a row of cells at a time, of a picture its head and then a row of pixels
+// Writes a field to a writer: of a text a row of cells at a time, of a picture its head and then a row of pixels
 // at a time. It stops at the first write that fails.
 ghost use Rattle.std.specs.Prelude.{false, ◌≡◌, ◌+◌, ◌*◌, ◌/◌, ◌≤◌, ◌<◌, length, take};
+ghost use Rattle.std.specs.Io.KnownBytes.{Appends};
 ghost use Rattle.load.specs.Load.{wide_of, high_of, stride_of};
-ghost use Rattle.text.specs.Put.{Put};
+ghost use Rattle.text.specs.Put.{Put, joined};
 ghost use Rattle.show.specs.Text.{row_text};
 ghost use Rattle.show.specs.Picture.{row_pixels};
 ghost use Rattle.show_field.specs.Output.{parts_of, picture_part, part_of, none_sent};
@@ -10,7 +11,7 @@ ghost use Rattle.show_field.specs.Shown.{FieldOfFile};
 
 use crate::Wanted;
 use frame::Frame;
-use libc::STDOUT_FILENO;
+use std::io::Write;
 
 fn parts_of(w: Wanted, f: Frame) -> usize
     requires { f.height ≤ 2048 }
@@ -93,6 +94,7 @@ pub struct Sent {
     pub failed: bool,
 }
 
+#[tactic(auto, unfolding(crate::specs::Output::none_sent))]
 pub fn none_sent() -> Sent
     ensures { result ≡ none_sent }
 {
@@ -104,7 +106,8 @@ pub fn none_sent() -> Sent
 }
 
 // Writes the part that comes next.
-fn write_part(
+fn write_part<W: Write>(
+    to: &mut W,
     w: Wanted,
     f: Frame,
     sent: Sent,
@@ -114,11 +117,12 @@ fn write_part(
     out: &mut [u8],
 ) -> Sent
     requires { FieldOfFile f field_y.now field_x.now field_ref.now × (f.width ≤ 2048) × (f.height ≤ 2048) × (sent.parts < parts_of w f) × (65536 ≤ length field_y.now) × (65536 ≤ length field_x.now) × (65536 ≤ length field_ref.now) × (14592 ≤ length out.old) × (sent.failed ≡ false) }
-    ensures { (result.parts ≡ sent.parts + 1) × (take result.bytes out.new ≡ part_of w f field_y.now field_x.now field_ref.now sent.parts) }
+    ensures handed { (result.parts ≡ sent.parts + 1) × (take result.bytes out.new ≡ part_of w f field_y.now field_x.now field_ref.now sent.parts) }
+    ensures written { result.failed ≡ false → Appends (W.contents to.old) (W.contents to.new) (part_of w f field_y.now field_x.now field_ref.now sent.parts) }
 {
     let k = sent.parts;
     let end = put_part(w, f, k, field_y, field_x, field_ref, out);
-    let written = text::write_front(STDOUT_FILENO, out, end);
+    let written = text::write_front(to, out, end);
     Sent {
         parts: k + 1,
         bytes: written.bytes,
@@ -126,7 +130,8 @@ fn write_part(
     }
 }
 
-fn write_parts(
+fn write_parts<W: Write>(
+    to: &mut W,
     w: Wanted,
     f: Frame,
     field_y: &[i32],
@@ -135,12 +140,13 @@ fn write_parts(
     out: &mut [u8],
 ) -> Sent
     requires { FieldOfFile f field_y.now field_x.now field_ref.now × (f.width ≤ 2048) × (f.height ≤ 2048) × (65536 ≤ length field_y.now) × (65536 ≤ length field_x.now) × (65536 ≤ length field_ref.now) × (14592 ≤ length out.old) }
-    ensures { result.failed ≡ false → result.parts ≡ parts_of w f }
+    ensures all { result.failed ≡ false → result.parts ≡ parts_of w f }
+    ensures written { result.failed ≡ false → Appends (W.contents to.old) (W.contents to.new) (joined (part_of w f field_y.now field_x.now field_ref.now) (parts_of w f) 0) }
 {
     let parts = parts_of(w, f);
     let mut sent = none_sent();
     while sent.parts < parts {
-        sent = write_part(w, f, sent, field_y, field_x, field_ref, out);
+        sent = write_part(to, w, f, sent, field_y, field_x, field_ref, out);
         if sent.failed {
             return sent;
         }
@@ -149,10 +155,18 @@ fn write_parts(
 }
 
 // 256 lines of at most 57 bytes; a row of 2048 pixels has 6144.
-pub fn write_field(w: Wanted, f: Frame, field_y: &[i32], field_x: &[i32], field_ref: &[u8]) -> Sent
+pub fn write_field<W: Write>(
+    to: &mut W,
+    w: Wanted,
+    f: Frame,
+    field_y: &[i32],
+    field_x: &[i32],
+    field_ref: &[u8],
+) -> Sent
     requires { FieldOfFile f field_y.now field_x.now field_ref.now × (f.width ≤ 2048) × (f.height ≤ 2048) × (65536 ≤ length field_y.now) × (65536 ≤ length field_x.now) × (65536 ≤ length field_ref.now) }
-    ensures { result.failed ≡ false → result.parts ≡ parts_of w f }
+    ensures all { result.failed ≡ false → result.parts ≡ parts_of w f }
+    ensures written { result.failed ≡ false → Appends (W.contents to.old) (W.contents to.new) (joined (part_of w f field_y.now field_x.now field_ref.now) (parts_of w f) 0) }
 {
     let mut out = [0u8; 14592];
-    write_parts(w, f, field_y, field_x, field_ref, &mut out)
+    write_parts(to, w, f, field_y, field_x, field_ref, &mut out)
 }
