@@ -1,7 +1,7 @@
 // Bytes as signed numbers, and numbers and words as text: what the programs read and write.
 #![tactic(auto)]
 
-ghost use Rattle.std.specs.Prelude.{◌≡◌, ◌+◌, ◌%◌, ◌≤◌, ◌<◌, [], ◌∷◌, length, take, false};
+ghost use Rattle.std.specs.Prelude.{◌≡◌, ◌+◌, ◌%◌, ◌≤◌, ◌<◌, [], ◌∷◌, length, take, true, false};
 ghost use Rattle.std.specs.Io.KnownBytes.{Appends, Consumes, IsAtEnd};
 ghost use Rattle.io.specs.Counts.{IsPrefixLen};
 ghost use Rattle.text.specs.Decimal.{natural, decimal, signed_byte};
@@ -143,6 +143,7 @@ pub fn read_full<R: Read>(from: &mut R, buf: &mut [u8]) -> Filled
     ensures prefix_len { IsPrefixLen result.bytes buf.new }
     ensures bytes { Consumes (R.remaining from.old) (R.remaining from.new) (take result.bytes buf.new) }
     ensures end { result.failed ≡ false → result.bytes < length buf.new → IsAtEnd (R.remaining from.new) }
+    ensures room { result.failed ≡ true → result.bytes < length buf.new }
 {
     let mut done = 0;
     while done < buf.len() {
