@@ -1,5 +1,5 @@
 -- Laws of pieces of text that are put one behind the other. Assumes nothing.
-use Rattle.std.proofs.Common.{List, [], ◌∷◌, ◌++◌, append_assoc, append-nil, ◌≡◌, ap, ◌∙◌, sym, subst, ℕ, suc, ◌+◌, ◌-◌, ◌/◌, ◌%◌, ◌≤◌, ◌<◌, add-zero, add-one, arith, length, take, drop, set, get_or, take-suc-set, take-suc, take-add, drop_at, length-take-le}
+use Rattle.std.proofs.Common.{List, [], ◌∷◌, ◌++◌, append_assoc, append-nil, ◌≡◌, refl, ap, ◌∙◌, sym, subst, ℕ, zero, suc, ◌+◌, ◌-◌, ◌/◌, ◌%◌, ◌≤◌, ◌<◌, add-zero, add-one, arith, length, take, drop, set, get_or, take-suc-set, take-suc, take-add, drop_at, length-take-le}
 use Rattle.std.proofs.Math.Nat.{sub-zero, sub_self}
 use Rattle.std.proofs.Math.Seq.{append_snoc, take-set-le, take-length, set_split}
 use Rattle.io.specs.Digits.{last_digits as digits}
@@ -86,3 +86,16 @@ joined_more {out} {after} {whole} {at} f n i h e p = rw (p.front, append_assoc, 
 pub joined_all : {whole : List ℕ} (out : List ℕ) (at : ℕ) (f : ℕ → List ℕ) (n i : ℕ) → n ≤ i → take at out ++ joined f (n - i) i ≡ whole → take at out ≡ whole
 unfolding joined
 joined_all out at f n i h e = let z : n - i ≡ 0 = omega arith in sym (append-nil (take at out)) ∙ rw z at e
+
+joined_later : (f : ℕ → List ℕ) (n i : ℕ) → joined f (suc n) i ≡ joined f n i ++ f (i + n)
+unfolding joined
+joined_later f zero i = rw (add-zero, append-nil)
+joined_later f (suc n) i = let e : i + suc n ≡ (i + 1) + n = omega arith in rw (e, append_assoc) (ap (λ (t : List ℕ). f i ++ t) (joined_later f n (i + 1)))
+
+-- a piece more, at the end
+pub joined_last : (f : ℕ → List ℕ) (n : ℕ) → joined f (n + 1) 0 ≡ joined f n 0 ++ f n
+joined_last f n = let e : 0 + n ≡ n = omega arith in rw add-one (joined_later f n 0 ∙ ap (λ (k : ℕ). joined f n 0 ++ f k) e)
+
+pub joined_none : (f : ℕ → List ℕ) → [] ≡ joined f 0 0
+unfolding joined
+joined_none f = refl
