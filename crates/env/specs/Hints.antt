@@ -1,9 +1,9 @@
 -- The difference of two order hints (01 "Order hint and slot"; refusal 3). Assumes nothing.
-use Rattle.std.specs.Prelude.{ℕ, ◌+◌, ◌-◌, ◌%◌, ◌^◌, cond, ℤ, pos, negsuc, ◌-ℤ◌, nat_lt}
+use Rattle.std.specs.Prelude.{ℕ, ◌+◌, ◌-◌, ◌%◌, ◌^◌, cond, ℤ, pos, negsuc, ◌-ℤ◌, nat_lt, Result, Ok, Err}
 use Rattle.intops.specs.Choice.{pick_z}
 use Rattle.levels.specs.declared.OrderHint.{OrderHint}
-use Rattle.env.specs.declared.PocDiff.{PocDiff}
-use Rattle.env.specs.declared.PocDiff.TheVariants.{Diff, TooManyBits}
+use Rattle.levels.specs.declared.Refusal.{Refusal}
+use Rattle.levels.specs.Answer.{number_of}
 
 -- z modulo m: of 0 .. m - 1, the one that differs from z by a multiple of m. negsuc a is -(a + 1) = (m - 1) - a - m, so the remainder is (m - 1) - a % m
 abbrev pub mod_z : ℤ → ℕ → ℕ
@@ -32,9 +32,9 @@ abbrev pub refused_diff : ℕ → SaidDiff
 refused_diff n = record { refusal = n; diff = pos 0 }
 
 -- each case's number and difference
-abbrev pub says_diff : PocDiff → SaidDiff
-says_diff (Diff d) = differ d
-says_diff TooManyBits = refused_diff 3
+abbrev pub says_diff : Result ℤ Refusal → SaidDiff
+says_diff (Ok d) = differ d
+says_diff (Err e) = refused_diff (number_of e)
 
 -- get_poc_diff: refusal 3 for hint bits above 8; else the difference
 abbrev pub poc_diff : ℕ → OrderHint → OrderHint → SaidDiff

@@ -4,23 +4,15 @@
 ghost use Rattle.std.specs.Prelude.{◌≡◌, ◌≤◌};
 ghost use Rattle.env.specs.Hints.{hint_diff, poc_diff, says_diff};
 
-use levels::OrderHint;
+use levels::{OrderHint, Refusal};
 
-// What get_poc_diff answers.
-#[derive(Clone, Copy)]
-pub enum PocDiff {
-    Diff(i32),
-    // Refusal 3: hint bits above 8.
-    TooManyBits,
-}
-
-// poc0 - poc1 modulo 2^n, in -2^(n-1) .. 2^(n-1) - 1. Within the library, where n is tested already.
+/// poc0 - poc1 modulo 2^n, in -2^(n-1) .. 2^(n-1) - 1. Within the library, where n is tested already.
 pub fn poc_diff(order_hint_n_bits: u32, poc0: OrderHint, poc1: OrderHint) -> i32
     requires { order_hint_n_bits ≤ 8 }
     ensures { result ≡ hint_diff order_hint_n_bits poc0 poc1 }
 {
     let m: u32 = 1 << order_hint_n_bits;
-    let d = (std::num::wrapping_sub_u8(poc0.0, poc1.0) as u32) % m;
+    let d = u32::from(poc0.0.wrapping_sub(poc1.0)) % m;
     if d + d < m {
         d as i32
     } else {
@@ -28,11 +20,16 @@ pub fn poc_diff(order_hint_n_bits: u32, poc0: OrderHint, poc1: OrderHint) -> i32
     }
 }
 
-pub fn get_poc_diff(order_hint_n_bits: u32, poc0: OrderHint, poc1: OrderHint) -> PocDiff
+/// The difference of two order hints of n bits, as poc_diff; refusal 3 for hint bits above 8.
+pub fn get_poc_diff(
+    order_hint_n_bits: u32,
+    poc0: OrderHint,
+    poc1: OrderHint,
+) -> Result<i32, Refusal>
     ensures { says_diff result ≡ poc_diff order_hint_n_bits poc0 poc1 }
 {
     if 8 < order_hint_n_bits {
-        return PocDiff::TooManyBits;
+        return Err(Refusal::TooManyBits);
     }
-    PocDiff::Diff(poc_diff(order_hint_n_bits, poc0, poc1))
+    Ok(poc_diff(order_hint_n_bits, poc0, poc1))
 }

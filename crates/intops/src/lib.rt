@@ -11,21 +11,22 @@ ghost use Rattle.intops.specs.Rounding.{round_div};
 pub fn imax(a: i32, b: i32) -> i32
     ensures { result ≡ max_z a b }
 {
-    if a < b { b } else { a }
+    a.max(b)
 }
 
 pub fn imin(a: i32, b: i32) -> i32
     ensures { result ≡ min_z a b }
 {
-    if a < b { a } else { b }
+    a.min(b)
 }
 
 pub fn umax(a: u32, b: u32) -> u32
     ensures { result ≡ max a b }
 {
-    if a < b { b } else { a }
+    a.max(b)
 }
 
+// This and iclip64to32 are not `clamp`, which asks for min <= max: here crossed bounds have an answer too.
 pub fn iclip(v: i32, min: i32, max: i32) -> i32
     ensures { result ≡ clip_z «min» «max» v }
 {
@@ -41,9 +42,9 @@ pub fn iclip(v: i32, min: i32, max: i32) -> i32
 pub fn iclip64to32(v: i64, min: i32, max: i32) -> i32
     ensures { result ≡ clip_z «min» «max» v }
 {
-    if v < (min as i64) {
+    if v < i64::from(min) {
         min
-    } else if (max as i64) < v {
+    } else if i64::from(max) < v {
         max
     } else {
         v as i32
@@ -54,11 +55,7 @@ pub fn iclip64to32(v: i64, min: i32, max: i32) -> i32
 pub fn unsigned_abs(v: i32) -> u32
     ensures { result ≡ nat_abs v }
 {
-    if v < 0 {
-        (-(v as i64)) as u32
-    } else {
-        v as u32
-    }
+    v.unsigned_abs()
 }
 
 // The magnitude v with the sign of s.
@@ -74,7 +71,7 @@ pub fn ulog2(v: u32) -> u32
     requires { 0 < v }
     ensures { result ≡ highest_bit v }
 {
-    31 - u32::leading_zeros(v)
+    31 - v.leading_zeros()
 }
 
 // p / 2^bits, rounded to nearest, halves away from zero.
@@ -83,6 +80,6 @@ pub fn round_shift(p: i64, bits: u32) -> i64
     ensures { result ≡ round_div (2 ^ bits) p }
 {
     let low: u32 = bits - 1;
-    let half: i64 = (1u64 << low) as i64;
-    (p + half - ((p < 0) as i64)) >> bits
+    let half: i64 = 1 << low;
+    (p + half - i64::from(p < 0)) >> bits
 }

@@ -9,22 +9,19 @@ ghost use Rattle.mv.specs.Packing.{packed, unpacked};
 ghost use Rattle.env.specs.Hints.{poc_diff};
 ghost use Rattle.lent.specs.Lent.{Gives, GivesBytes, GivesDiff};
 
-use levels::{Mv, MvAnswer, OrderHint, QMv};
+use levels::{Mv, OrderHint, QMv, Refusal};
 
 // Writes an answer's vector into out, and answers its number.
-fn put_mv(answer: MvAnswer, out: &mut [i32; 2]) -> u32
+fn put_mv(answer: Result<Mv, Refusal>, out: &mut [i32; 2]) -> u32
     ensures { Gives (says answer) result out.old out.new }
 {
     match answer {
-        MvAnswer::Vector(mv) => {
-            let y = mv.y;
-            let x = mv.x;
-            out[0] = y;
-            out[1] = x;
+        Ok(mv) => {
+            out[0] = mv.y;
+            out[1] = mv.x;
             0
         }
-        MvAnswer::OutOfRange => 1,
-        MvAnswer::HalfMark => 2,
+        Err(refusal) => refusal.into(),
     }
 }
 
@@ -59,10 +56,8 @@ pub fn quantize_mv(y: i32, x: i32, out: &mut [i8; 2]) -> u32
     ensures { GivesBytes (packed (record { y = y; x = x })) result out.old out.new }
 {
     let q = mv::quantize_mv(Mv { y, x });
-    let qy = q.y;
-    let qx = q.x;
-    out[0] = qy;
-    out[1] = qx;
+    out[0] = q.y;
+    out[1] = q.x;
     0
 }
 
@@ -75,10 +70,10 @@ pub fn get_poc_diff(
     ensures { GivesDiff (poc_diff order_hint_n_bits poc0 poc1) result out.old out.new }
 {
     match env::get_poc_diff(order_hint_n_bits, poc0, poc1) {
-        env::PocDiff::Diff(d) => {
+        Ok(d) => {
             out[0] = d;
             0
         }
-        env::PocDiff::TooManyBits => 3,
+        Err(refusal) => refusal.into(),
     }
 }

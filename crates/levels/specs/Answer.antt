@@ -1,10 +1,30 @@
--- What an answer on vectors says in 01's terms ("Why a tank is turned back"). Assumes nothing.
-use Rattle.std.specs.Prelude.{ℕ, pos}
+-- What an answer says: the refusal's number, 0 for none, and the value. Assumes nothing.
+use Rattle.std.specs.Prelude.{ℕ, pos, Result, Ok, Err}
 use Rattle.levels.specs.declared.Mv.{Mv}
-use Rattle.levels.specs.declared.MvAnswer.{MvAnswer}
-use Rattle.levels.specs.declared.MvAnswer.TheVariants.{Vector, OutOfRange, HalfMark}
+use Rattle.levels.specs.declared.Refusal.{Refusal}
+use Rattle.levels.specs.declared.Refusal.TheVariants.{VectorOutOfRange, HalfMark, TooManyBits, TooManySlots, BadSuperblock, BadStep, BadSize, BadTipSlot, SetupOutOfRange, TileOutOfRange, TooShort, ContentsOutOfRange}
 
--- the refusal's number, 0 for none, and the vector
+-- a refusal's number
+abbrev pub number_of : Refusal → ℕ
+number_of VectorOutOfRange = 1
+number_of HalfMark = 2
+number_of TooManyBits = 3
+number_of TooManySlots = 4
+number_of BadSuperblock = 5
+number_of BadStep = 6
+number_of BadSize = 7
+number_of BadTipSlot = 8
+number_of SetupOutOfRange = 9
+number_of TileOutOfRange = 10
+number_of TooShort = 11
+number_of ContentsOutOfRange = 12
+
+-- the number that an answer gives: that of its refusal, 0 for none
+abbrev pub refusal_of : {A : Type 0} → Result A Refusal → ℕ
+refusal_of (Ok a) = 0
+refusal_of (Err e) = number_of e
+
+-- of an answer on vectors: the refusal's number, 0 for none, and the vector
 pub record Said : Type 0 where
   pub refusal : ℕ
   pub vector : Mv
@@ -18,7 +38,6 @@ abbrev pub refused : ℕ → Said
 refused n = record { refusal = n; vector = record { y = pos 0; x = pos 0 } }
 
 -- each case's number and vector
-abbrev pub says : MvAnswer → Said
-says (Vector v) = answered v
-says OutOfRange = refused 1
-says HalfMark = refused 2
+abbrev pub says : Result Mv Refusal → Said
+says (Ok v) = answered v
+says (Err e) = refused (number_of e)

@@ -6,10 +6,6 @@ use Rattle.levels.specs.declared.Slot.{Slot}
 abbrev pub slot : ℕ → Slot
 slot i = record { 0 = i }
 
--- the table of links has a slot or none at each place: none is 7, as it is -1 in `init_frame`
-abbrev pub no_link : Slot
-no_link = slot 7
-
 -- the number of the slot at place k of a list
 abbrev pub slot_at : List Slot → ℕ → ℕ
 slot_at xs k = (get_or xs k (slot 0)).0

@@ -1,52 +1,147 @@
-// The types of levels.rs that the motion field is made of, and the answers of the functions on vectors.
+// The types of levels.rs that the motion field is made of, and why a call is refused.
 #![tactic(auto)]
 
 ghost use Rattle.std.specs.Prelude.{◌≡◌};
+ghost use Rattle.levels.specs.Answer.{number_of};
 
-// A motion vector, y first. It is empty (01's term) where y is INVALID_MV; (0, 0) is a still cell.
+use std::fmt;
+
+/// A motion vector, y first. It is empty where y is `INVALID_MV`; (0, 0) is a still cell.
 #[repr(C)]
-#[derive(Clone, Copy)]
+#[derive(Clone, Copy, PartialEq, Eq, Debug)]
 pub struct Mv {
     pub y: i32,
     pub x: i32,
 }
 
-// The y of the empty vector, which is written with x = 0.
+/// The y of the empty vector, which is written with x = 0.
 pub const INVALID_MV: i32 = 0x20_0000;
 
-// A packed vector: two codes with their signs. Both bytes -128 (hex 8080) is the mark (01's term).
-#[derive(Clone, Copy)]
+impl Mv {
+    /// The empty vector as it is written.
+    pub const EMPTY: Mv = Mv {
+        y: INVALID_MV,
+        x: 0,
+    };
+}
+
+/// A packed vector: two codes with their signs. Both bytes -128 (hex 8080) is the mark.
+#[derive(Clone, Copy, PartialEq, Eq, Debug)]
 pub struct QMv {
     pub y: i8,
     pub x: i8,
 }
 
-// A reference slot (01's term slot), 0 to 6: who takes one tests it. It is no order hint.
-#[repr(C)]
-#[derive(Clone, Copy)]
-pub struct Slot(pub u8);
-
-// In the table of links, which has a slot or none at each place, none.
-pub const NO_LINK: Slot = Slot(7);
-
-// A slot as an index of an array. No other function makes an index of a slot.
-pub fn slot_index(s: Slot) -> usize
-    ensures { result ≡ s.0 }
-{
-    s.0 as usize
+impl QMv {
+    /// The mark, which unpacks to the empty vector.
+    pub const MARK: QMv = QMv { y: -128, x: -128 };
 }
 
-// An order hint (01's term), 0 to 255. It is no slot.
+/// A reference slot, 0 to 6: who takes one tests it. It is no order hint.
 #[repr(C)]
-#[derive(Clone, Copy)]
+#[derive(Clone, Copy, PartialEq, Eq, Debug)]
+pub struct Slot(pub u8);
+
+impl Slot {
+    /// The slot as an index of an array. No other function makes an index of a slot.
+    pub fn index(self) -> usize
+        ensures { result ≡ self.0 }
+    {
+        usize::from(self.0)
+    }
+}
+
+/// An order hint, 0 to 255. It is no slot.
+#[repr(C)]
+#[derive(Clone, Copy, PartialEq, Eq, Debug)]
 pub struct OrderHint(pub u8);
 
-// What a function on vectors answers.
-#[derive(Clone, Copy)]
-pub enum MvAnswer {
-    Vector(Mv),
-    // Refusal 1: a component, the bounds or the factor out of range.
-    OutOfRange,
-    // Refusal 2: exactly one byte of a packed vector is -128.
+/// Why a call is refused. A refused call has changed nothing.
+#[derive(Clone, Copy, PartialEq, Eq, Debug)]
+pub enum Refusal {
+    /// 1: a component past ±65,535, crossed bounds, or a factor past ±507,904.
+    VectorOutOfRange,
+    /// 2: exactly one byte of a packed vector is -128.
     HalfMark,
+    /// 3: hint bits above 8.
+    TooManyBits,
+    /// 4: more than seven slots in use.
+    TooManySlots,
+    /// 5: a superblock code above 2.
+    BadSuperblock,
+    /// 6: a sample step that is not 1 or 2.
+    BadStep,
+    /// 7: a width or height that is not 1 to 65,536.
+    BadSize,
+    /// 8: a TIP slot that is not a slot in use, where the setup looks at the TIP pair.
+    BadTipSlot,
+    /// 9: a setup out of its ranges.
+    SetupOutOfRange,
+    /// 10: columns or rows that are no tile's.
+    TileOutOfRange,
+    /// 11: planes, or a list of the store, shorter than stated.
+    TooShort,
+    /// 12: a saved block of the superblock row, or a trajectory, out of range.
+    ContentsOutOfRange,
+}
+
+impl Refusal {
+    /// The refusal's number, 1 to 12: what the entries for C answer, where 0 is no refusal.
+    pub fn number(self) -> u8
+        ensures { result ≡ number_of self }
+    {
+        match self {
+            Refusal::VectorOutOfRange => 1,
+            Refusal::HalfMark => 2,
+            Refusal::TooManyBits => 3,
+            Refusal::TooManySlots => 4,
+            Refusal::BadSuperblock => 5,
+            Refusal::BadStep => 6,
+            Refusal::BadSize => 7,
+            Refusal::BadTipSlot => 8,
+            Refusal::SetupOutOfRange => 9,
+            Refusal::TileOutOfRange => 10,
+            Refusal::TooShort => 11,
+            Refusal::ContentsOutOfRange => 12,
+        }
+    }
+}
+
+impl From<Refusal> for u8 {
+    ghost from_gives = { λ r n. n ≡ number_of r };
+
+    fn from(refusal: Refusal) -> u8 {
+        refusal.number()
+    }
+}
+
+impl From<Refusal> for u32 {
+    ghost from_gives = { λ r n. n ≡ number_of r };
+
+    fn from(refusal: Refusal) -> u32 {
+        u32::from(refusal.number())
+    }
+}
+
+impl fmt::Display for Refusal {
+    fn fmt<W: fmt::Write>(&self, f: &mut fmt::Formatter<W>) -> fmt::Result {
+        f.write_str(match self {
+            Refusal::VectorOutOfRange => {
+                "a component past ±65535, bounds crossed, or a factor past ±507904"
+            }
+            Refusal::HalfMark => "exactly one byte of a packed vector is -128",
+            Refusal::TooManyBits => "hint bits above 8",
+            Refusal::TooManySlots => "more than 7 slots in use",
+            Refusal::BadSuperblock => "superblock code above 2",
+            Refusal::BadStep => "sample step not 1 or 2",
+            Refusal::BadSize => "width or height not 1 to 65536",
+            Refusal::BadTipSlot => "a TIP slot that is not a slot in use",
+            Refusal::SetupOutOfRange => "a setup out of its ranges",
+            Refusal::TileOutOfRange => "columns or rows that are no tile's",
+            Refusal::TooShort => "planes, or a list of the store, shorter than stated",
+            Refusal::ContentsOutOfRange => {
+                "a saved block of the superblock row, or a trajectory, out of range"
+            }
+        })
+    }
 }

@@ -1,9 +1,18 @@
 -- The laws of projection. Assumes nothing.
-use Rattle.std.proofs.Common.{◌≡◌, ℕ, zero, suc, ◌+◌, ◌≤◌, ◌<◌, div-le_self, add-zero, zero-add, arith, get_or, ℤ, pos, negsuc, nat_abs}
+use Rattle.std.proofs.Common.{◌≡◌, List, [], ◌∷◌, ℕ, zero, suc, ◌+◌, ◌≤◌, ◌<◌, div-le_self, add-zero, zero-add, arith, get_or, ℤ, pos, negsuc, nat_abs}
 use Rattle.intops.specs.Bounds.{Within}
 use Rattle.intops.specs.Choice.{clip_z}
 use Rattle.intops.proofs.Signed.{mul_within, clip_abs}
-use Rattle.mv.specs.Projection.{reciprocal, reciprocals_from, reciprocals, projection_factor}
+use Rattle.mv.specs.Projection.{reciprocal, projection_factor}
+
+-- the reciprocals of n numbers from d on
+abbrev pub reciprocals_from : ℕ → ℕ → List ℕ
+reciprocals_from zero d = []
+reciprocals_from (suc n) d = reciprocal d ∷ reciprocals_from n (suc d)
+
+-- the whole table: the reciprocals of 0 to 31
+unfoldable pub reciprocals : List ℕ
+reciprocals = reciprocals_from 32 0
 
 pub reciprocal_le : (d : ℕ) → reciprocal d ≤ 16384
 unfolding reciprocal

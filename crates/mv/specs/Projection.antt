@@ -1,5 +1,5 @@
 -- Projection and scaling of a vector (01 "Vector"; refusal 1). Assumes nothing.
-use Rattle.std.specs.Prelude.{Bool, cond, ◌||◌, List, [], ◌∷◌, ℕ, zero, suc, ◌/◌, ltb, ℤ, pos, negsuc, nat_abs, ◌*ℤ◌}
+use Rattle.std.specs.Prelude.{Bool, cond, ◌||◌, ℕ, ◌/◌, ltb, ℤ, pos, negsuc, nat_abs, ◌*ℤ◌}
 use Rattle.std.specs.Int.Signed.{lt_z}
 use Rattle.intops.specs.Choice.{clip_z}
 use Rattle.intops.specs.Rounding.{round_div}
@@ -9,15 +9,6 @@ use Rattle.levels.specs.Answer.{Said, answered, refused}
 -- entry d of the reciprocal table DIV_MULT: the whole part of 16384 / d, which is 0 for d = 0
 unfoldable pub reciprocal : ℕ → ℕ
 reciprocal d = 16384 / d
-
--- the reciprocals of n numbers from d on
-abbrev pub reciprocals_from : ℕ → ℕ → List ℕ
-reciprocals_from zero d = []
-reciprocals_from (suc n) d = reciprocal d ∷ reciprocals_from n (suc d)
-
--- the whole table: the reciprocals of 0 to 31
-unfoldable pub reciprocals : List ℕ
-reciprocals = reciprocals_from 32 0
 
 -- num clipped to -31..31, times the reciprocal of den clipped to 1..31
 unfoldable pub projection_factor : ℤ → ℤ → ℤ

@@ -29,8 +29,9 @@ biased_in : (s : Start) → Within (2 ^ 61 + 2 ^ 31 + 1) (biased (2 ^ (s.args.bi
 biased_in s = within_sub (sum_in s) (within_bool (lt_z s.args.p (pos 0)))
 
 pub returns : goal.returns
-returns s =
+returns c =
+    let s = (goal.at.returns c).Start in
     let f = s.ranges.p in let g = fits_within w64 tt (half_in s) in let h = fits_within w64 tt (sum_in s) in let b = fits_within w64 tt (biased_in s) in
     let r = fits_within w64 tt (within_shr (2 ^ s.args.bits) (biased_in s)) in
     let e : suc (s.args.bits - 1) ≡ s.args.bits = omega signed in
-    rw (half_is s) (simp back (rw e at (shift_rounds (s.args.bits - 1) s.args.p)))
+    rw (c.from.ensures, half_is s) (simp back (rw e at (shift_rounds (s.args.bits - 1) s.args.p)))

@@ -39,4 +39,7 @@ fits c =
     rw (is c) (fits_within w32 tt (factor_within s.num s.den))
 
 pub returns : goal.returns
-returns c = let f : SFits w32 c.iclip-n.result = sfits_of c.iclip-n.type_inv in let g = m_fits c in let h = fits c in simp back (is c)
+returns c =
+    let d = (goal.at.returns c).After-div_mult-m in
+    let f : SFits w32 c.iclip-n.result = sfits_of c.iclip-n.type_inv in let g = m_fits d in let h = fits d in
+    rw c.from.ensures (simp back (is d))

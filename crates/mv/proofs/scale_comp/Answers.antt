@@ -1,5 +1,5 @@
 -- `mv::scale_comp` meets its contract. Assumes nothing.
-use Rattle.std.proofs.Common.{rules, ◌∙◌, ap, ◌*◌, ◌^◌, ◌*ℤ◌, w32, w64, SFits}
+use Rattle.std.proofs.Common.{rules, ◌≡◌, ◌∙◌, ap, ◌*◌, ◌^◌, ◌*ℤ◌, w32, w64, SFits}
 use Rattle.intops.specs.Bounds.{Within}
 use Rattle.intops.specs.Choice.{clip_z}
 use Rattle.mv.specs.Projection.{scaled_by}
@@ -17,4 +17,6 @@ returns c =
     let f = c.ranges.v in let g = c.ranges.sf in let h = fits_within w64 tt (p_in (goal.at.returns c).Start) in let l = c.ranges.min in let u = c.ranges.max in
     let k : SFits w64 c.round_shift.result = search rules in
     let r : SFits w32 c.iclip64to32.result = search rules in
-    simp back (simp back at c.iclip64to32.ensures ∙ ap (clip_z c.args.min c.args.max) (simp back at c.round_shift.ensures))
+    let a : c.from.result ≡ c.args.v = simp back at c.from.ensures in
+    let b : c.from-2.result ≡ c.args.sf = simp back at c.from-2.ensures in
+    simp back (simp back at c.iclip64to32.ensures ∙ ap (clip_z c.args.min c.args.max) (simp back at (rw (a, b) at c.round_shift.ensures)))

@@ -1,4 +1,4 @@
--- `mv::add` meets its contract. Assumes nothing.
+-- `mv::Sum::add` meets its contract. Assumes nothing.
 use Rattle.std.proofs.Common.{rules, ◌≡◌, refl, sym, Bool, true, false, not, cond, ◌+◌, ◌≤◌, add-zero, arith, ℤ, pos, ◌+ℤ◌, to_z-of_z, w32, w64, SFits, to_z, of_z}
 use Rattle.std.proofs.Math.Facts.{sfits_lit}
 use mir.Val.{bool_byte}
@@ -8,7 +8,7 @@ use Rattle.mv.specs.Averages.{SumOf}
 use Rattle.mv.specs.Sums.{is_empty, added, Fair}
 use Rattle.mv.specs.declared.Sum.{Sum}
 use Rattle.mv.proofs.Averages.{sum_more, sum_wide}
-use Rattle.mv.proofs.add.Goals as goal
+use Rattle.mv.proofs.Sum.add.Goals as goal
 
 fits_kept : (t : Bool) {z : ℤ} → SFits w32 z → SFits w32 (cond t z (pos 0))
 fits_kept true f = f
@@ -40,7 +40,7 @@ made v s e y x h f fy fx p q = rw (p, q) (grown v s e h f fy fx)
 pub returns : goal.returns
 returns c =
     let a = c.args in let i = c.is_empty-there in let fy : SFits w32 a.v.y = search rules in let fx : SFits w32 a.v.x = search rules in
-    let py : SFits w64 a.s.y = search rules in let px : SFits w64 a.s.x = search rules in
-    made a.v a.s i.result _ _ (sym i.ensures) c.requires.0 fy fx
-    (sum_of a.s.y _ c.kept.result py (let g : SFits w64 c.kept.result = search rules in g) (kept_of (not i.result) fy c.kept.ensures) (fits_more a.s (not i.result) a.v.y a.s.y c.requires.0.y c.requires.1 fy))
-    (sum_of a.s.x _ c.kept-2.result px (let g : SFits w64 c.kept-2.result = search rules in g) (kept_of (not i.result) fx c.kept-2.ensures) (fits_more a.s (not i.result) a.v.x a.s.x c.requires.0.x c.requires.1 fx))
+    let py : SFits w64 a.self.y = search rules in let px : SFits w64 a.self.x = search rules in
+    rw c.from.ensures (made a.v a.self i.result _ _ (sym i.ensures) c.requires.0 fy fx
+    (sum_of a.self.y _ c.kept.result py (let g : SFits w64 c.kept.result = search rules in g) (kept_of (not i.result) fy c.kept.ensures) (fits_more a.self (not i.result) a.v.y a.self.y c.requires.0.y c.requires.1 fy))
+    (sum_of a.self.x _ c.kept-2.result px (let g : SFits w64 c.kept-2.result = search rules in g) (kept_of (not i.result) fx c.kept-2.ensures) (fits_more a.self (not i.result) a.v.x a.self.x c.requires.0.x c.requires.1 fx)))

@@ -1,9 +1,0 @@
--- `lent::dequantize_mv` meets its contract. Assumes nothing.
-use Rattle.intops.proofs.Signed.{back}
-use Rattle.lent.proofs.dequantize_mv.Goals as goal
-
-pub returns : goal.returns
-returns c =
-    let y = c.ranges.y in let x = c.ranges.x in
-    let e = simp back at c.dequantize_mv.ensures in
-    rw e at c.put_mv.ensures
