@@ -3,10 +3,11 @@
 #![tactic(auto)]
 
 ghost use Rattle.std.specs.Prelude.{◌≡◌};
-ghost use Rattle.c_setup.specs.Setup.{header_of, frame_of, switches_of};
+ghost use Rattle.frame.specs.Frame.{says_setup};
+ghost use Rattle.c_setup.specs.Setup.{header_of, frame_of, switches_of, given_by};
 
 use frame::{Frame, Header, Sources, Tip};
-use levels::OrderHint;
+use levels::{OrderHint, Refusal};
 use picks::{Pocs, Saved};
 
 // A header as C hands it over: switches are bytes, on where not 0.
@@ -37,6 +38,20 @@ pub struct CHeader {
 pub struct CSetup {
     pub refusal: u32,
     pub frame: Frame,
+}
+
+impl From<Result<Frame, Refusal>> for CSetup {
+    ghost from_gives = { λ r c. given_by c ≡ says_setup r };
+
+    fn from(setup: Result<Frame, Refusal>) -> CSetup {
+        match setup {
+            Ok(frame) => CSetup { refusal: 0, frame },
+            Err(refusal) => CSetup {
+                refusal: u32::from(refusal),
+                frame: frame::zero_frame(),
+            },
+        }
+    }
 }
 
 // A setup as C hands it to a load: as it was given, but that switches are bytes, on where not 0.

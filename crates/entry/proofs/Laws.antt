@@ -1,5 +1,5 @@
 -- The laws of the search for a hint, and of the factors. Assumes nothing.
-use Rattle.std.proofs.Common.{◌≡◌, refl, Bool, true, false, cond, List, ℕ, suc, ◌+◌, ◌-◌, ◌<◌, ◌≤◌, arith, mul-le-mul, div-le_self, ltb, ℤ, pos, negsuc, nat_abs, get_or, eq-eqb, ne_eqb, ltb-true}
+use Rattle.std.proofs.Common.{min, ◌≡◌, refl, Bool, true, false, List, Some, None, ℕ, suc, ◌+◌, ◌-◌, ◌<◌, ◌≤◌, arith, mul-le-mul, div-le_self, ℤ, pos, negsuc, nat_abs, get_or, eq-eqb, ne_eqb, Option, IfSome, zero, cond, eqb}
 use lib.Signed.{lt_z}
 use Rattle.intops.specs.Choice.{pick_z}
 use Rattle.intops.proofs.Signed.{signed, ud}
@@ -7,40 +7,47 @@ use Rattle.levels.specs.declared.OrderHint.{OrderHint}
 use Rattle.env.specs.Hints.{hint_diff}
 use Rattle.mv.specs.Projection.{reciprocal}
 use Rattle.picks.specs.Hints.{no_hint}
-use Rattle.entry.specs.Entry.{found, min31, size, near_z, diff_of}
+use Rattle.entry.specs.Entry.{found, size, near_z, diff_of}
 
 module _ (hs : List OrderHint) (x : OrderHint) (n l : ℕ) where
-  pub found_here : l < n → (get_or hs l no_hint).0 ≡ x.0 → l ≡ found hs x (n - l) l
+  pub found_here : l < n → (get_or hs l no_hint).0 ≡ x.0 → found hs x (n - l) l ≡ Some l
   unfolding found
   found_here h e =
       let k : n - l ≡ suc (n - (l + 1)) = omega arith in
       rw k (simp (eq-eqb _ _ e))
 
-  pub found_next : l < n → ((get_or hs l no_hint).0 ≡ x.0 → ⊥) → found hs x (n - (l + 1)) (l + 1) ≡ found hs x (n - l) l
+  pub found_next : l < n → ((get_or hs l no_hint).0 ≡ x.0 → ⊥) → found hs x (n - l) l ≡ found hs x (n - (l + 1)) (l + 1)
   unfolding found
   found_next h e =
       let k : n - l ≡ suc (n - (l + 1)) = omega arith in
       rw k (simp (ne_eqb _ _ e))
 
-  pub found_end : n ≤ l → l ≡ found hs x (n - l) l
+  pub found_end : n ≤ l → found hs x (n - l) l ≡ None
   unfolding found
   found_end h = let k : n - l ≡ 0 = omega arith in rw k
 
-min_go : (a : ℕ) (t : Bool) → ltb a 31 ≡ t → cond t a 31 ≤ 31
-min_go a true e = omega (arith, ltb-true a 31 e)
-min_go a false e = omega arith
+low_go : (t : Bool) (l n : ℕ) (o : Option ℕ) → IfSome o (λ k. k < l + 1 + n) → IfSome (cond t (Some l) o) (λ k. k < l + suc n)
+low_go true l n o h = omega arith
+low_go false l n None h = tt
+low_go false l n (Some k) h = omega arith
 
-pub min31_le : (a : ℕ) → min31 a ≤ 31
-min31_le a = min_go a (ltb a 31) refl
+-- a slot that is found is one of those
+pub found_low : (hs : List OrderHint) (x : OrderHint) (n l : ℕ) → IfSome (found hs x n l) (λ k. k < l + n)
+unfolding found
+found_low hs x zero l = tt
+found_low hs x (suc n) l = low_go (eqb (get_or hs l no_hint).0 x.0) l n (found hs x n (l + 1)) (found_low hs x n (l + 1))
 
 pub mult_le : (n : ℕ) → reciprocal n ≤ 16384
 unfolding reciprocal
 mult_le n = div-le_self 16384 n
 
+min_31 : (n : ℕ) → min n 31 ≤ 31
+min_31 n = omega arith
+
 -- a factor is 507,904 at most
 pub size_le : (a b : ℤ) → size a b ≤ 507904
 unfolding size
-size_le a b = mul-le-mul (min31_le (nat_abs a)) (mult_le (min31 (nat_abs b)))
+size_le a b = mul-le-mul (min_31 (nat_abs a)) (mult_le (min (nat_abs b) 31))
 
 near_go : (d : ℤ) (s t : Bool) → lt_z d (negsuc 30) ≡ s → lt_z (pos 31) d ≡ t → nat_abs (pick_z s (pos 0) (pick_z t (pos 0) d)) ≤ 31
 near_go d true t x y = omega signed

@@ -1,7 +1,8 @@
 -- One source of the setup (01 "Setup record"; the last loop of init_frame). Assumes nothing.
 use Rattle.env.specs.Hints.{hint_diff}
-use Rattle.std.specs.Prelude.{ℕ, zero, suc, ◌+◌, ◌*◌, Bool, cond, List, ltb, eqb, ℤ, pos, negsuc, neg_ℤ, nat_abs, ◌-ℤ◌, get_or}
-use Rattle.std.specs.Int.Signed.{lt_z, le_z}
+use Rattle.std.specs.Prelude.{ℕ, zero, suc, ◌+◌, ◌*◌, min, Bool, cond, List, Option, Some, None, ltb, eqb, ℤ, pos, negsuc, neg_ℤ, nat_abs, ◌-ℤ◌, get_or}
+use Rattle.std.specs.Bool.{beq}
+use Rattle.std.specs.Int.Signed.{lt_z}
 use Rattle.loops.specs.Seven.{seven}
 use Rattle.intops.specs.Choice.{pick_z}
 use Rattle.mv.specs.Projection.{reciprocal}
@@ -11,26 +12,27 @@ use Rattle.picks.specs.declared.MfmvRef.{MfmvRef}
 use Rattle.picks.specs.Hints.{no_hint, hint_of, saved_of}
 use Rattle.entry.specs.declared.Source.{Source}
 
--- the first of the k slots from l on with the hint x; l + k where none has it
-unfoldable pub found : List OrderHint → OrderHint → ℕ → ℕ → ℕ
-found hs x zero l = l
-found hs x (suc k) l = cond (eqb (get_or hs l no_hint).0 x.0) l (found hs x k (l + 1))
+-- the first of the k slots from l on with the hint x, if one has it
+unfoldable pub found : List OrderHint → OrderHint → ℕ → ℕ → Option ℕ
+found hs x zero l = None
+found hs x (suc k) l = cond (eqb (get_or hs l no_hint).0 x.0) (Some l) (found hs x k (l + 1))
+
+-- a slot's number, -1 for none
+abbrev pub or_none : Option ℕ → ℤ
+or_none None = negsuc 0
+or_none (Some k) = pos k
 
 -- ref2idx: the first of all seven slots with the hint, even past the slots in use; -1 where none has it
 unfoldable pub found_slot : List OrderHint → OrderHint → ℤ
-found_slot hs x = cond (ltb (found hs x 7 0) 7) (pos (found hs x 7 0)) (negsuc 0)
-
--- a distance, of 31 at most
-abbrev pub min31 : ℕ → ℕ
-min31 a = cond (ltb a 31) a 31
+found_slot hs x = or_none (found hs x 7 0)
 
 -- the size of a factor: the distance a times the reciprocal of the distance b, both of 31 at most
 unfoldable pub size : ℤ → ℤ → ℕ
-size a b = min31 (nat_abs a) * reciprocal (min31 (nat_abs b))
+size a b = min (nat_abs a) 31 * reciprocal (min (nat_abs b) 31)
 
 -- whether both are below 0, or neither
 abbrev pub same_sign : ℤ → ℤ → Bool
-same_sign a b = cond (lt_z a (pos 0)) (lt_z b (pos 0)) (le_z (pos 0) b)
+same_sign a b = beq (lt_z a (pos 0)) (lt_z b (pos 0))
 
 -- the factor a / b, in parts of 16384, by the table: both distances cut to 31, the reciprocal's whole part taken first; 0 for b = 0
 unfoldable pub ratio_z : ℤ → ℤ → ℤ
@@ -90,17 +92,13 @@ source_of h p = cond (ltb 31 (nat_abs (cur h p))) (blank_of p (negsuc 31)) (full
 
 -- ---- how the code goes about it: array after array
 
--- the difference of each reference, by the saved hints
-unfoldable pub ref2ref_of : ℕ → OrderHint → List OrderHint → List ℤ
-ref2ref_of nbits a saved = seven (diff_of nbits a saved)
+-- the difference of each of slot i's references
+unfoldable pub ref2ref_of : Pocs → ℕ → List ℤ
+ref2ref_of h i = seven (ref_diff h i)
 
--- the slot with the hint of reference m
-abbrev pub idx_of : List OrderHint → List OrderHint → ℕ → ℤ
-idx_of hs saved m = found_slot hs (get_or saved m no_hint)
-
--- the slot of each reference
-unfoldable pub ref2idx_of : List OrderHint → List OrderHint → List ℤ
-ref2idx_of hs saved = seven (idx_of hs saved)
+-- the slot with the hint of each
+unfoldable pub ref2idx_of : Pocs → ℕ → List ℤ
+ref2idx_of h i = seven (λ m. found_slot h.ref_poc (saved_hint h i m))
 
 -- what is left of the difference d after c, or c
 abbrev pub part_of : Bool → ℤ → ℤ → ℤ

@@ -1,130 +1,97 @@
 // One source's entries.
 #![tactic(auto)]
 
-ghost use Rattle.std.specs.Prelude.{◌≡◌, ◌≤◌, ◌<◌, nat_abs};
-ghost use Rattle.mv.specs.Projection.{reciprocals};
-ghost use Rattle.entry.specs.Entry.{found, found_slot, ratio_z, ref2ref_of, ref2idx_of, part_of, factors_of, source_of};
+ghost use Rattle.std.specs.Prelude.{◌≡◌, ◌≤◌, ◌<◌, nat_abs, IfSome};
+ghost use Rattle.entry.specs.Entry.{found, found_slot, ratio_z, near_z, ref2ref_of, ref2idx_of, part_of, factors_of, blank_of, source_of};
 
 use levels::{OrderHint, Slot};
-use picks::{MfmvRef, Pocs, Saved};
+use picks::{Hints, MfmvRef};
+use std::array;
 
-// The first of the first n slots with the hint x, n if there is none. From the back, so that no
-// branch depends on where it is.
-pub fn find_hint(hints: [OrderHint; 7], x: OrderHint, n: usize) -> usize
+/// The first of the first n slots with the hint x. From the back, so that no branch depends on where it is.
+#[tactic(auto, using(crate::proofs::Laws::found_here, crate::proofs::Laws::found_next, crate::proofs::Laws::found_end))]
+pub fn find_hint(hints: &[OrderHint; 7], x: OrderHint, n: usize) -> Option<usize>
     requires { n ≤ 7 }
-    ensures { result ≡ found hints x n 0 }
+    ensures value { result ≡ found hints.now x n 0 }
+    ensures below { IfSome result (λ k. k < n) }
 {
-    let mut r = n;
-    let mut l = n;
-    while 0 < l {
-        l -= 1;
-        let a = hints[l];
-        if a.0 == x.0 {
-            r = l;
+    let mut first = None;
+    for l in (0..n).rev() {
+        if hints[l] == x {
+            first = Some(l);
         }
     }
-    r
+    first
 }
 
-// The same among all seven, -1 if there is none.
-fn slot_of(hints: [OrderHint; 7], x: OrderHint) -> i8
-    ensures { result ≡ found_slot hints x }
+// The same among all seven, -1 if there is none, as C's record has it.
+#[tactic(auto, unfolding(crate::specs::Entry::found_slot))]
+fn slot_of(hints: &[OrderHint; 7], x: OrderHint) -> i8
+    ensures { result ≡ found_slot hints.now x }
 {
-    let k = find_hint(hints, x, 7);
-    if k < 7 { k as i8 } else { -1 }
+    match find_hint(hints, x, 7) {
+        Some(k) => k as i8,
+        None => -1,
+    }
 }
 
-fn min31(a: u32) -> u32
-    ensures { result ≡ Rattle.entry.specs.Entry.min31 a }
-{
-    if a < 31 { a } else { 31 }
-}
-
-fn same_sign(a: i32, b: i32) -> bool
-    ensures { result ≡ Rattle.entry.specs.Entry.same_sign a b }
-{
-    if a < 0 { b < 0 } else { 0 <= b }
-}
-
-// a / b as a multiple of 2^-14, both kept within 31.
-pub fn ratio(a: i32, b: i32, table: &[u16; 32]) -> i32
-    requires { table.now ≡ reciprocals }
+/// a / b as a multiple of 2^-14, both kept within 31: of the table of reciprocals the part that get_mv_projection takes.
+pub fn ratio(a: i32, b: i32) -> i32
     ensures { result ≡ ratio_z a b }
 {
-    let m = min31(intops::unsigned_abs(a));
-    let n = min31(intops::unsigned_abs(b));
-    let v = m * (mv::div_mult(table, n as usize) as u32);
-    if same_sign(a, b) {
-        v as i32
+    let size = a.unsigned_abs().min(31)
+        * u32::from(mv::div_mult(b.unsigned_abs().min(31) as usize));
+    if (a < 0) == (b < 0) {
+        size as i32
     } else {
-        -(v as i32)
+        -(size as i32)
     }
 }
 
 // A difference of 31 at most is kept, another is 0.
 fn near(d: i32) -> i8
-    ensures { result ≡ Rattle.entry.specs.Entry.near_z d }
+    ensures { result ≡ near_z d }
 {
-    if d < -31 {
-        0
-    } else if 31 < d {
-        0
-    } else {
-        d as i8
-    }
+    if d < -31 || 31 < d { 0 } else { d as i8 }
 }
 
-// From each reference that was saved with a slot to the slot, whose hint is a.
-fn ref2ref_of(nbits: u32, a: OrderHint, s: Saved) -> [i8; 7]
-    requires { nbits ≤ 8 }
-    ensures { result ≡ ref2ref_of nbits a s.ref_poc }
+// From each reference that was saved with slot s to the slot.
+fn ref2ref_of(h: &Hints, s: Slot) -> [i8; 7]
+    requires { s.0 < 7 }
+    ensures { result ≡ ref2ref_of h.now.pocs s.0 }
 {
-    let hints = s.ref_poc;
-    let mut out = [0i8; 7];
-    for m in 0..7 {
-        let b = hints[m];
-        let d = near(env::poc_diff(nbits, a, b));
-        out[m] = d;
-    }
-    out
+    array::from_fn(|m| near(h.diff(h.hint(s), h.pocs.saved[s.index()].ref_poc[m])))
 }
 
 // The slot with the hint of each of those references.
-fn ref2idx_of(hints: [OrderHint; 7], s: Saved) -> [i8; 7]
-    ensures { result ≡ ref2idx_of hints s.ref_poc }
+fn ref2idx_of(h: &Hints, s: Slot) -> [i8; 7]
+    requires { s.0 < 7 }
+    ensures { result ≡ ref2idx_of h.now.pocs s.0 }
 {
-    let saved = s.ref_poc;
-    let mut out = [0i8; 7];
-    for m in 0..7 {
-        let b = saved[m];
-        let i = slot_of(hints, b);
-        out[m] = i;
-    }
-    out
+    array::from_fn(|m| slot_of(&h.pocs.ref_poc, h.pocs.saved[s.index()].ref_poc[m]))
 }
 
 // The part of the difference d that a factor is for: what is left after cur, or cur.
 fn part(cur: i32, d: i32, rest: bool) -> i32
-    requires { (nat_abs cur ≤ 31) × (nat_abs d ≤ 128) }
+    requires current { nat_abs cur ≤ 31 }
+    requires difference { nat_abs d ≤ 128 }
     ensures { result ≡ part_of rest cur d }
 {
     if rest { d - cur } else { cur }
 }
 
 // For each difference the factor of that part over it.
-fn factors(cur: i32, ref2ref: [i8; 7], rest: bool, table: &[u16; 32]) -> [i32; 7]
-    requires { (nat_abs cur ≤ 31) × (table.now ≡ reciprocals) }
-    ensures { result ≡ factors_of cur ref2ref rest }
+fn factors(cur: i32, ref2ref: &[i8; 7], rest: bool) -> [i32; 7]
+    requires { nat_abs cur ≤ 31 }
+    ensures { result ≡ factors_of cur ref2ref.now rest }
 {
-    let mut out = [0i32; 7];
-    for m in 0..7 {
-        let d = ref2ref[m] as i32;
-        let f = ratio(part(cur, d, rest), d, table);
-        out[m] = f;
-    }
-    out
+    array::from_fn(|m| {
+        let d = i32::from(ref2ref[m]);
+        ratio(part(cur, d, rest), d)
+    })
 }
 
+/// A source of the setup record: the slot, its target and its direction, the difference from the frame, and the entries of each of the slot's references. C's record: any bytes.
 #[repr(C)]
 #[derive(Clone, Copy)]
 pub struct Source {
@@ -138,51 +105,40 @@ pub struct Source {
     pub ref2sf1: [i32; 7],
 }
 
-fn blank(p: MfmvRef, cur: i8) -> Source
-    ensures { result ≡ Rattle.entry.specs.Entry.blank_of p cur }
+/// The source p with no entries, at a difference from the frame.
+pub fn blank(p: &MfmvRef, ref2cur: i8) -> Source
+    ensures { result ≡ blank_of p.now ref2cur }
 {
-    let reference = p.reference;
-    let ref2ref = [0i8; 7];
-    let ref2idx = [0i8; 7];
-    let ref2sf0 = [0i32; 7];
-    let ref2sf1 = [0i32; 7];
     Source {
-        reference,
+        reference: p.reference,
         tgt: p.tgt,
         dir: p.dir,
-        ref2cur: cur,
-        ref2ref,
-        ref2idx,
-        ref2sf0,
-        ref2sf1,
+        ref2cur,
+        ref2ref: [0; 7],
+        ref2idx: [0; 7],
+        ref2sf0: [0; 7],
+        ref2sf1: [0; 7],
     }
 }
 
-pub fn source_of(h: Pocs, p: MfmvRef, table: &[u16; 32]) -> Source
-    requires { (h.nbits ≤ 8) × (p.reference.0 < 7) × (table.now ≡ reciprocals) }
-    ensures { result ≡ source_of h p }
+/// The source p with its entries; without them where it is more than 31 from the frame.
+pub fn source_of(h: &Hints, p: &MfmvRef) -> Source
+    requires { p.now.reference.0 < 7 }
+    ensures { result ≡ source_of h.now.pocs p.now }
 {
-    let reference = p.reference;
-    let at = levels::slot_index(reference);
-    let a = h.ref_poc[at];
-    let cur = env::poc_diff(h.nbits, a, h.poc);
-    if intops::unsigned_abs(cur) > 31 {
+    let cur = h.diff(h.hint(p.reference), h.pocs.poc);
+    if 31 < cur.unsigned_abs() {
         return blank(p, -32);
     }
-    let s = h.saved[at];
-    let hints = h.ref_poc;
-    let ref2ref = ref2ref_of(h.nbits, a, s);
-    let ref2idx = ref2idx_of(hints, s);
-    let ref2sf0 = factors(cur, ref2ref, false, table);
-    let ref2sf1 = factors(cur, ref2ref, true, table);
+    let ref2ref = ref2ref_of(h, p.reference);
     Source {
-        reference,
+        reference: p.reference,
         tgt: p.tgt,
         dir: p.dir,
         ref2cur: cur as i8,
         ref2ref,
-        ref2idx,
-        ref2sf0,
-        ref2sf1,
+        ref2idx: ref2idx_of(h, p.reference),
+        ref2sf0: factors(cur, &ref2ref, false),
+        ref2sf1: factors(cur, &ref2ref, true),
     }
 }

@@ -1,5 +1,6 @@
 -- The leading run; that what is picked are sources in range; the straight lines of calls. Assumes nothing.
-use Rattle.std.proofs.Common.{◌≡◌, refl, Bool, true, false, cond, List, ℕ, zero, suc, ◌+◌, ◌*◌, ◌-◌, ◌<◌, ◌≤◌, ltb, leb, ℤ, pos, negsuc, nat_abs, leb-false, ne_eqb, ltb-false, arith, get_or, replicate}
+use Rattle.std.proofs.Common.{◌≡◌, refl, Bool, true, false, cond, ◌&&◌, ◌||◌, Option, Some, None, Ok, Err, List, ℕ, zero, suc, ◌+◌, ◌*◌, ◌-◌, ◌<◌, ◌≤◌, ltb, leb, ℤ, pos, negsuc, nat_abs, leb-false, ne_eqb, ltb-false, arith, get_or, replicate}
+use Rattle.std.specs.Bool.{⊤}
 use lib.Signed.{le_z, lt_z}
 use Rattle.env.specs.Hints.{hint_diff}
 use Rattle.entry.specs.Entry.{ratio_z}
@@ -9,35 +10,37 @@ use Rattle.loops.proofs.Counting.{byte_one}
 use Rattle.loops.proofs.Keeps.{set_has, span_in}
 use Rattle.picks.specs.declared.Pocs.{Pocs}
 use Rattle.picks.specs.declared.Picks.{Picks}
-use Rattle.picks.specs.declared.Candidate.{Candidate}
-use Rattle.picks.specs.declared.Candidate.TheVariants.{Nothing, At}
-use Rattle.picks.specs.Hints.{hint_of}
-use Rattle.picks.proofs.Laws.{earlier_valid, later_valid, nth_valid}
+use Rattle.picks.specs.declared.MfmvRef.{MfmvRef}
+use Rattle.levels.specs.declared.Refusal.{Refusal}
+use Rattle.levels.specs.Answer.{number_of}
+use Rattle.levels.proofs.Refusals.{number_pos}
+use Rattle.picks.specs.Hints.{hint_of, hints_refusal}
+use Rattle.picks.proofs.Laws.{side_valid, earlier_valid, later_valid}
 use Rattle.rank.specs.Rank.{sorted}
 use Rattle.rank.proofs.Laws.{sorted_small}
 use Rattle.topo.proofs.Small.{ordered_small}
 use Rattle.topo.specs.declared.Order.{Order}
-use Rattle.topo.specs.Topo.{ordered}
+use Rattle.topo.specs.Topo.{Links, ordered}
 use Rattle.levels.specs.declared.Slot.{Slot}
 use Rattle.levels.specs.Slots.{slot, slot_at}
-use Rattle.picks.specs.Picks.{Valid, Slots, appended, offered, earlier, later, nearer_earlier, in_turn, round, neighbours, nth_earlier, nearest, both_ways, from_end, rest}
+use Rattle.picks.specs.Picks.{Valid, Slots, pushed, offered, with_side, nearer_earlier, in_turn, round, neighbours, nth_earlier, nth_later, nearest, both_ways, from_end, rest}
 use Rattle.refs.specs.Refs.{links_of, diffs, signs}
-use Rattle.frame.specs.Frame.{Fine, Pickable, leading, no_pick, put_taken, started, tip_put, tip_add, with_tip, picked, tip_diff, in_byte, tip_with, tip_of, slot_of, refusal_of}
+use Rattle.frame.specs.Frame.{Fine, Pickable, leading, no_pick, put_taken, started, tip_pick, tip_put, tip_add, with_tip, picked, tip_diff, in_byte, tip_with, tip_of, slot_of, refusal_of, refused_if, frame_of, zero_frame, setup_of}
 
 module _ (sg : List Bool) (xs : List Slot) (n l : ℕ) where
-  pub lead_here : l < n → get_or sg (slot_at xs l) false ≡ false → l ≡ leading sg xs (n - l) l
+  pub lead_here : l < n → get_or sg (slot_at xs l) false ≡ false → leading sg xs (n - l) l ≡ l
   unfolding leading
   lead_here h e =
       let k : n - l ≡ suc (n - (l + 1)) = omega arith in
       rw k (simp e)
 
-  pub lead_next : l < n → get_or sg (slot_at xs l) false ≡ true → leading sg xs (n - (l + 1)) (l + 1) ≡ leading sg xs (n - l) l
+  pub lead_next : l < n → get_or sg (slot_at xs l) false ≡ true → leading sg xs (n - l) l ≡ leading sg xs (n - (l + 1)) (l + 1)
   unfolding leading
   lead_next h e =
       let k : n - l ≡ suc (n - (l + 1)) = omega arith in
       rw k (simp e)
 
-  pub lead_end : n ≤ l → l ≡ leading sg xs (n - l) l
+  pub lead_end : n ≤ l → leading sg xs (n - l) l ≡ l
   unfolding leading
   lead_end h = let k : n - l ≡ 0 = omega arith in rw k
 
@@ -52,24 +55,22 @@ lead_le sg xs (suc k) l = lead_go (get_or sg (slot_at xs l) false) (leading sg x
 
 -- ---- the sources picked are slots, four at most
 
-appended_fine : (s : Slot) (dir : ℕ) (p : Picks) → s.0 < 7 → dir < 2 → p.count < 4 → Fine p → Fine (appended s dir p)
-appended_fine s dir p h d l f =
-    record {
-      few = omega arith;
-      each = λ k. set_has Pickable p.list p.count k (record { reference = s; tgt = negsuc 0; dir = dir }) no_pick (record { reference = h; low = omega signed; high = omega signed; dir = d }) (f.each k);
-    }
+push_fine : (x : MfmvRef) (p : Picks) → Pickable x → p.count < 4 → Fine p → Fine (pushed x p)
+push_fine x p h l f = record { few = omega arith; each = λ k. set_has Pickable p.list p.count k x no_pick h (f.each k) }
 
-offered_go : (limit : ℕ) (s : Slot) (dir : ℕ) (p : Picks) (t u : Bool) → leb limit p.count ≡ t → limit ≤ 4 → s.0 < 7 → dir < 2 → Fine p → Fine (cond t p (cond u p (appended s dir p)))
+offered_go : (limit : ℕ) (s : Slot) (dir : ℕ) (p : Picks) (t u : Bool) → leb limit p.count ≡ t → limit ≤ 4 → s.0 < 7 → dir < 2 → Fine p
+    → Fine (cond t p (cond u p (pushed (record { reference = s; tgt = negsuc 0; dir = dir }) p)))
 offered_go limit s dir p true u e l h d f = f
 offered_go limit s dir p false true e l h d f = f
-offered_go limit s dir p false false e l h d f = appended_fine s dir p h d (omega (arith, leb-false limit p.count e)) f
+offered_go limit s dir p false false e l h d f =
+    push_fine (record { reference = s; tgt = negsuc 0; dir = dir }) p (record { reference = h; low = omega signed; high = omega signed; dir = d }) (omega (arith, leb-false limit p.count e)) f
 
-pub offered_fine : (limit : ℕ) (c : Candidate) (dir : ℕ) (p : Picks) → limit ≤ 4 → Valid c → dir < 2 → Fine p → Fine (offered limit c dir p)
+pub offered_fine : (limit : ℕ) (c : Option Slot) (dir : ℕ) (p : Picks) → limit ≤ 4 → Valid c → dir < 2 → Fine p → Fine (offered limit c dir p)
 unfolding offered
-offered_fine limit Nothing dir p l v d f = f
-offered_fine limit (At s) dir p l v d f = offered_go limit s dir p (leb limit p.count) (get_or p.taken (s.0 * 2 + dir) false) refl l v d f
+offered_fine limit None dir p l v d f = f
+offered_fine limit (Some s) dir p l v d f = offered_go limit s dir p (leb limit p.count) (get_or p.taken (s.0 * 2 + dir) false) refl l v d f
 
-turn_go : (a b : Candidate) (p : Picks) (t : Bool) → Valid a → Valid b → Fine p → Fine (cond t (offered 3 b 0 (offered 3 a 1 p)) (offered 3 a 1 (offered 3 b 0 p)))
+turn_go : (a b : Option Slot) (p : Picks) (t : Bool) → Valid a → Valid b → Fine p → Fine (cond t (offered 3 b 0 (offered 3 a 1 p)) (offered 3 a 1 (offered 3 b 0 p)))
 turn_go a b p true va vb f = offered_fine 3 b 0 _ (omega arith) vb (omega arith) (offered_fine 3 a 1 p (omega arith) va (omega arith) f)
 turn_go a b p false va vb f = offered_fine 3 a 1 _ (omega arith) va (omega arith) (offered_fine 3 b 0 p (omega arith) vb (omega arith) f)
 
@@ -77,17 +78,19 @@ pub neighbours_fine : (h : Pocs) (xs : List Slot) (f : ℕ) (p : Picks) → Slot
 unfolding neighbours in_turn
 neighbours_fine h xs f p v fp =
     span_in Fine (round h xs f) 2
-    (λ n q l fq. turn_go (earlier h xs f n) (later h xs f n) q (nearer_earlier h (earlier h xs f n) (later h xs f n)) (earlier_valid h xs f n v) (later_valid h xs f n v) fq)
+    (λ n q l fq.
+    let a = with_side h true (nth_earlier xs f (n + 1)) in let b = with_side h false (nth_later xs f h.n_refs n) in
+    turn_go a b q (nearer_earlier h a b) (side_valid h true _ (earlier_valid xs f (n + 1) v)) (side_valid h false _ (later_valid xs f h.n_refs n v)) fq)
     p fp
 
 pub nearest_fine : (xs : List Slot) (f : ℕ) (p : Picks) → Slots xs → Fine p → Fine (nearest xs f p)
 unfolding nearest
 nearest_fine xs f p v fp =
-    offered_fine 3 (nth_earlier xs f 2) 0 _ (omega arith) (nth_valid xs f 2 v) (omega arith) (offered_fine 3 (nth_earlier xs f 1) 0 p (omega arith) (nth_valid xs f 1 v) (omega arith) fp)
+    offered_fine 3 (nth_earlier xs f 2) 0 _ (omega arith) (earlier_valid xs f 2 v) (omega arith) (offered_fine 3 (nth_earlier xs f 1) 0 p (omega arith) (earlier_valid xs f 1 v) (omega arith) fp)
 
-both_go : (s : Slot) (p : Picks) (t : Bool) → s.0 < 7 → Fine p → Fine (cond t (offered 4 (At s) 0 (offered 4 (At s) 1 p)) (offered 4 (At s) 1 (offered 4 (At s) 0 p)))
-both_go s p true h f = offered_fine 4 (At s) 0 _ (omega arith) h (omega arith) (offered_fine 4 (At s) 1 p (omega arith) h (omega arith) f)
-both_go s p false h f = offered_fine 4 (At s) 1 _ (omega arith) h (omega arith) (offered_fine 4 (At s) 0 p (omega arith) h (omega arith) f)
+both_go : (s : Slot) (p : Picks) (t : Bool) → s.0 < 7 → Fine p → Fine (cond t (offered 4 (Some s) 0 (offered 4 (Some s) 1 p)) (offered 4 (Some s) 1 (offered 4 (Some s) 0 p)))
+both_go s p true h f = offered_fine 4 (Some s) 0 _ (omega arith) h (omega arith) (offered_fine 4 (Some s) 1 p (omega arith) h (omega arith) f)
+both_go s p false h f = offered_fine 4 (Some s) 1 _ (omega arith) h (omega arith) (offered_fine 4 (Some s) 0 p (omega arith) h (omega arith) f)
 
 pub rest_fine : (d : List ℤ) (xs : List Slot) (n : ℕ) (p : Picks) → Slots xs → Fine p → Fine (rest d xs n p)
 unfolding rest both_ways
@@ -111,9 +114,8 @@ started_fine present n =
     span_in Fine (put_taken present) n (λ k q l f. record { few = f.few; each = f.each }) _ (record { few = omega arith; each = λ k. zeros 4 k })
 
 put_fine : (h : Pocs) (s t : Slot) (p : Picks) → s.0 < 7 → t.0 < 7 → p.count < 4 → Fine p → Fine (tip_put h s t p)
-unfolding tip_put
 put_fine h s t p l m c f =
-    record { few = omega arith; each = λ k. set_has Pickable p.list p.count k _ no_pick (record { reference = l; low = omega signed; high = omega signed; dir = omega (arith, byte_one (lt_z (hint_diff h.nbits (hint_of h s.0) (hint_of h t.0)) (pos 0))) }) (f.each k) }
+    push_fine (tip_pick h s t) p (record { reference = l; low = omega signed; high = omega signed; dir = omega (arith, byte_one (lt_z (hint_diff h.nbits (hint_of h s.0) (hint_of h t.0)) (pos 0))) }) c f
 
 add_fine : (h : Pocs) (place : List ℕ) (a b : Slot) (p : Picks) → a.0 < 7 → b.0 < 7 → p.count < 4 → Fine p → Fine (tip_add h place a b p)
 unfolding tip_add
@@ -125,13 +127,11 @@ add_fine h place a b p la lb c f = go (ltb (get_or place b.0 0) (get_or place a.
 
 pub tip_fine : (h : Pocs) (on : Bool) (sg : List Bool) (place : List ℕ) (a b : Slot) (p : Picks) → a.0 < 7 → b.0 < 7 → p.count < 4 → Fine p → Fine (with_tip h on sg place a b p)
 unfolding with_tip
-tip_fine h on sg place a b p la lb c f = go on (get_or sg a.0 false) (get_or sg b.0 false)
+tip_fine h on sg place a b p la lb c f = go (on && (get_or sg a.0 false || get_or sg b.0 false))
   where
-    go : (t u v : Bool) → Fine (cond t (cond u (tip_add h place a b p) (cond v (tip_add h place a b p) p)) p)
-    go false u v = f
-    go true true v = add_fine h place a b p la lb c f
-    go true false true = add_fine h place a b p la lb c f
-    go true false false = f
+    go : (t : Bool) → Fine (cond t (tip_add h place a b p) p)
+    go true = add_fine h place a b p la lb c f
+    go false = f
 
 -- all of it
 pub picked_fine : (h : Pocs) (present : List Bool) (tip : Bool) (a b : Slot) → h.n_refs ≤ 7 → a.0 < 7 → b.0 < 7 → Fine (picked h present tip a b)
@@ -143,7 +143,7 @@ picked_fine h present tip a b n la lb =
     (tip_fine h tip _ _ a b _ la lb (omega (arith, started_none present h.n_refs)) (started_fine present h.n_refs))))
 
 -- the straight line of calls
-module _ (h : Pocs) (present : List Bool) (tip : Bool) (a b : Slot) (sg : List Bool) (di : List ℤ) (od : List Slot) (fi : ℕ) (li : List Slot) (o : Order) (p q r s t : Picks) where
+module _ (h : Pocs) (present : List Bool) (tip : Bool) (a b : Slot) (sg : List Bool) (di : List ℤ) (od : List Slot) (fi : ℕ) (li : Links) (o : Order) (p q r s t : Picks) where
   pub picked_is : sg ≡ signs h → di ≡ diffs h → od ≡ sorted di h.n_refs → fi ≡ leading sg od h.n_refs 0 → li ≡ links_of h → o ≡ ordered li h.n_refs
       → p ≡ started present h.n_refs → q ≡ with_tip h tip sg o.place a b p → r ≡ neighbours h od fi q → s ≡ nearest od fi r → t ≡ rest di o.list o.count s
       → t ≡ picked h present tip a b
@@ -174,3 +174,41 @@ accepted_go false false bits slots n e f z = (ltb-false 8 bits e, ltb-false 7 sl
 pub accepted : (f : Header) → refusal_of f ≡ 0 → (f.pocs.nbits ≤ 8) × (f.pocs.n_refs ≤ 7)
 unfolding refusal_of
 accepted f z = accepted_go (ltb 8 f.pocs.nbits) (ltb 7 f.pocs.n_refs) f.pocs.nbits f.pocs.n_refs _ refl refl z
+
+-- ---- the answers of the tests
+
+pub refused : (bad : Bool) (e r : Refusal) → refused_if bad e ≡ Err r → (bad ≡ true) × (e ≡ r)
+refused true e r h = (refl, cc)
+refused false e r h = cc
+
+pub passed : (bad : Bool) (e : Refusal) (u : ⊤) → refused_if bad e ≡ Ok u → bad ≡ false
+passed true e u h = cc
+passed false e u h = refl
+
+hints_go : (t u : Bool) (n : ℕ) (e : Refusal) → cond t 3 (cond u 4 0) ≡ number_of e → cond t 3 (cond u 4 n) ≡ number_of e
+hints_go true u n e h = h
+hints_go false true n e h = h
+hints_go false false n e h = absurd (omega (arith, number_pos e))
+
+-- a refusal of the hints is the header's
+pub hints_first : (f : Header) (e : Refusal) → hints_refusal f.pocs ≡ number_of e → refusal_of f ≡ number_of e
+unfolding hints_refusal refusal_of
+hints_first f e h = hints_go (ltb 8 f.pocs.nbits) (ltb 7 f.pocs.n_refs) _ e h
+
+hints_none_go : (t u : Bool) → ◌≡◌ {A = ℕ} (cond t 3 (cond u 4 0)) 0 → (t ≡ false) × (u ≡ false)
+hints_none_go true u h = absurd (omega arith)
+hints_none_go false true h = absurd (omega arith)
+hints_none_go false false h = (refl, refl)
+
+pub hints_none : (f : Header) → hints_refusal f.pocs ≡ 0 → (ltb 8 f.pocs.nbits ≡ false) × (ltb 7 f.pocs.n_refs ≡ false)
+unfolding hints_refusal
+hints_none f h = hints_none_go (ltb 8 f.pocs.nbits) (ltb 7 f.pocs.n_refs) h
+
+-- a header that is refused, and one that is not
+pub setup_refused : (f : Header) (e : Refusal) → refusal_of f ≡ number_of e → setup_of f ≡ record { refusal = number_of e; frame = zero_frame }
+unfolding setup_of
+setup_refused f e h = rw (h, ne_eqb (number_of e) 0 (λ (z : number_of e ≡ 0). omega (arith, number_pos e)))
+
+pub setup_made : (f : Header) → refusal_of f ≡ 0 → setup_of f ≡ record { refusal = 0; frame = frame_of f }
+unfolding setup_of
+setup_made f h = rw h

@@ -1,5 +1,5 @@
 -- Each source of the record lies in the ranges that the loader tests. Assumes nothing.
-use Rattle.std.proofs.Common.{◌≡◌, refl, Bool, true, false, cond, List, ℕ, zero, suc, ◌≤◌, arith, ltb, eqb, ℤ, pos, negsuc, neg_ℤ, nat_abs, ◌-ℤ◌, ◌≤ℤ◌, get_or, replicate, ltb-true, ltb-false}
+use Rattle.std.proofs.Common.{◌≡◌, refl, Bool, true, false, cond, List, Option, Some, None, IfSome, ◌<◌, ◌+◌, ℕ, zero, suc, ◌≤◌, arith, ltb, eqb, ℤ, pos, negsuc, neg_ℤ, nat_abs, ◌-ℤ◌, ◌≤ℤ◌, get_or, replicate, ltb-false}
 use Rattle.loops.specs.Seven.{seven}
 use Rattle.loops.proofs.Keeps.{set_has, span_in}
 use Rattle.loops.proofs.Seven.{seven_all}
@@ -10,8 +10,8 @@ use Rattle.picks.specs.declared.MfmvRef.{MfmvRef}
 use Rattle.picks.specs.declared.Picks.{Picks}
 use Rattle.picks.specs.Hints.{hint_of, saved_of}
 use Rattle.entry.specs.declared.Source.{Source}
-use Rattle.entry.specs.Entry.{found, found_slot, size, same_sign, ratio_z, ref_diff, saved_hint, blank_of, cur, full_of, source_of}
-use Rattle.entry.proofs.Laws.{diff_le, size_le}
+use Rattle.entry.specs.Entry.{found, or_none, found_slot, size, same_sign, ratio_z, ref_diff, saved_hint, blank_of, cur, full_of, source_of}
+use Rattle.entry.proofs.Laws.{found_low, diff_le, size_le}
 use Rattle.frame.specs.declared.Sources.{Sources}
 use Rattle.frame.specs.declared.Header.{Header}
 use Rattle.frame.specs.Frame.{Pickable, Fine, SourceInRange, no_pick, no_source, mask_of, no_sources, put_source, filled, sources_of, picked, slot_of, refusal_of}
@@ -25,13 +25,13 @@ ratio_le : (a b : ℤ) → nat_abs (ratio_z a b) ≤ 507904
 unfolding ratio_z
 ratio_le a b = ratio_go (size a b) (same_sign a b) (size_le a b)
 
-found_go : (n : ℕ) (t : Bool) → ltb n 7 ≡ t → (negsuc 0 ≤ℤ cond t (pos n) (negsuc 0)) × (cond t (pos n) (negsuc 0) ≤ℤ pos 6)
-found_go n true e = let h = ltb-true n 7 e in (omega signed, omega signed)
-found_go n false e = (omega signed, omega signed)
+none_go : (o : Option ℕ) → IfSome o (λ k. k < 0 + 7) → (negsuc 0 ≤ℤ or_none o) × (or_none o ≤ℤ pos 6)
+none_go None h = (omega signed, omega signed)
+none_go (Some k) h = (omega signed, omega signed)
 
 found_in : (hs : List OrderHint) (x : OrderHint) → (negsuc 0 ≤ℤ found_slot hs x) × (found_slot hs x ≤ℤ pos 6)
 unfolding found_slot
-found_in hs x = found_go (found hs x 7 0) (ltb (found hs x 7 0) 7) refl
+found_in hs x = none_go (found hs x 7 0) (found_low hs x 7 0)
 
 -- the source p at c from the frame, with these entries for reference m
 abbrev made : MfmvRef → ℤ → (ℕ → ℤ) → (ℕ → ℤ) → (ℕ → ℤ) → (ℕ → ℤ) → Source

@@ -1,20 +1,18 @@
 -- The theorems that specs/Theorems.antt states. Assumes nothing.
-use Rattle.std.proofs.Common.{◌≡◌, refl, Bool, true, false, not, cond, ◌||◌, List, ℕ, zero, suc, ◌+◌, ◌*◌, ◌≤◌, ◌<◌, ◌⊎◌, inl, inr, arith, ltb, eqb, get_or, replicate, ltb-true, ltb-false, eqb-true, eq-eqb}
-use Rattle.std.proofs.Math.ListN.{get_or-replicate}
+use Rattle.std.proofs.Common.{◌≡◌, refl, Bool, true, false, not, cond, ◌||◌, Option, Some, None, IfSome, [], ℕ, zero, suc, ◌+◌, ◌≤◌, ◌<◌, ◌⊎◌, inl, inr, arith, ltb, eqb, get_or, ltb-false, eqb-true, eq-eqb}
 use borrow.Author.Tests.{eqb-false}
 use Rattle.intops.proofs.Tests.{or_neither}
-use Rattle.loops.proofs.Keeps.{set_has, span_in}
 use Rattle.picks.specs.declared.Pocs.{Pocs}
-use Rattle.levels.specs.declared.OrderHint.{OrderHint}
 use Rattle.levels.specs.declared.Slot.{Slot}
-use Rattle.levels.specs.Slots.{slot, no_link}
-use Rattle.picks.specs.declared.Saved.{Saved}
 use Rattle.picks.specs.Hints.{no_hint, saved_of}
 use Rattle.entry.specs.Entry.{found}
-use Rattle.refs.specs.Refs.{diffs, link_in, put_link, links_of}
+use Rattle.entry.proofs.Laws.{found_low}
+use Rattle.loops.proofs.Seven.{seven_at}
+use Rattle.refs.specs.Refs.{diffs, slot_if, link_of, links_from, links_of}
+use Rattle.topo.specs.Topo.{number_of}
 use Rattle.topo.specs.Theorems.{Among}
 use Rattle.frame.specs.declared.Header.{Header}
-use Rattle.frame.specs.Frame.{bad_step, bad_size, refusal_of, frame_of, setup_of}
+use Rattle.frame.specs.Frame.{bad_superblock, bad_step, bad_size, refusal_of, frame_of, setup_of}
 use Rattle.frame.specs.Theorems.{FrameInRange, AcceptedInRange, OrdersPermute}
 use Rattle.frame.proofs.Range.{sources_in}
 use Rattle.rank.proofs.Sorted as rank
@@ -44,12 +42,16 @@ good_step : (n : ℕ) → bad_step n ≡ false → (1 ≤ n) × (n ≤ 2)
 unfolding bad_step
 good_step n e = step_go n (eqb n 1) (eqb n 2) refl refl e
 
+good_superblock : (n : ℕ) → bad_superblock n ≡ false → n ≤ 2
+unfolding bad_superblock
+good_superblock n e = ltb-false 2 n e
+
 in_range : (f : Header) → refusal_of f ≡ 0 → FrameInRange (frame_of f)
 unfolding refusal_of frame_of
 in_range f e =
     let a = passed (ltb 8 f.pocs.nbits) 2 _ e in
     let b = passed (ltb 7 f.pocs.n_refs) 3 _ a.1 in
-    let c = passed (ltb 2 f.sb128) 4 _ b.1 in
+    let c = passed (bad_superblock f.sb128) 4 _ b.1 in
     let d = passed (bad_step f.tmvp_sample_step) 5 _ c.1 in
     let g = passed (bad_size f.width || bad_size f.height) 6 _ d.1 in
     let h = or_neither (bad_size f.width) (bad_size f.height) g.0 in
@@ -60,7 +62,7 @@ in_range f e =
       width_high = w.1;
       height_low = t.0;
       height_high = t.1;
-      code = ltb-false 2 f.sb128 c.0;
+      code = good_superblock f.sb128 c.0;
       step_low = p.0;
       step_high = p.1;
       slots = ltb-false 7 f.pocs.n_refs b.0;
@@ -74,24 +76,32 @@ accepted_in_range f e = rw (eq-eqb (refusal_of f) 0 e) (in_range f e)
 
 -- ---- the links are among the slots in use
 
-abbrev Target : ℕ → Slot → Type 0
-Target n s = (s.0 < n) ⊎ (7 ≤ s.0)
+abbrev Target : ℕ → Option Slot → Type 0
+Target n o = (number_of o < n) ⊎ (7 ≤ number_of o)
 
-link_go : (n x : ℕ) (t u : Bool) → ltb x n ≡ u → Target n (cond t no_link (cond u (slot x) no_link))
-link_go n x true u e = inr (omega arith)
-link_go n x false true e = inl (ltb-true x n e)
-link_go n x false false e = inr (omega arith)
+found_target : (n : ℕ) (o : Option ℕ) → IfSome o (λ k. k < 0 + n) → Target n (slot_if o)
+found_target n None h = inr (omega arith)
+found_target n (Some k) h = inl (omega arith)
 
-link_in_lem : (hints : List OrderHint) (s : Saved) (n m : ℕ) → Target n (link_in hints s n m)
-unfolding link_in
-link_in_lem hints s n m = let x = found hints (get_or s.ref_poc m no_hint) n 0 in link_go n x (eqb s.refcnt 0) (ltb x n) refl
+none_target : (n : ℕ) (t : Bool) (o : Option Slot) → Target n o → Target n (cond t None o)
+none_target n true o h = inr (omega arith)
+none_target n false o h = h
+
+link_target : (h : Pocs) (i m : ℕ) → Target h.n_refs (link_of h i m)
+unfolding link_of
+link_target h i m =
+    let x = get_or (saved_of h i).ref_poc m no_hint in
+    none_target h.n_refs (eqb (saved_of h i).refcnt 0) _ (found_target h.n_refs (found h.ref_poc x h.n_refs 0) (found_low h.ref_poc x h.n_refs 0))
+
+use_target : (n : ℕ) (t : Bool) (o : Option Slot) → Target n o → Target n (cond t o None)
+use_target n true o h = h
+use_target n false o h = inr (omega arith)
 
 links_among : (h : Pocs) → h.n_refs ≤ 7 → Among h.n_refs (links_of h)
-unfolding links_of
+unfolding links_of links_from
 links_among h l i m p q =
-    span_in (λ (g : List Slot). (k : ℕ) → k < 49 → Target h.n_refs (get_or g k (slot 0))) (put_link h) (7 * h.n_refs)
-    (λ k g b a j r. set_has (Target h.n_refs) g k j _ (slot 0) (link_in_lem h.ref_poc (saved_of h _) h.n_refs _) (a j r))
-    (replicate 49 no_link) (λ k r. rw (get_or-replicate {A = Slot} 49 k no_link (slot 0) r) (inr (omega arith))) (i * 7 + m) (omega arith)
+    rw (seven_at (links_from h) [] i (omega arith), seven_at (λ n. cond (ltb i h.n_refs) (link_of h i n) None) None m q)
+    (use_target h.n_refs (ltb i h.n_refs) (link_of h i m) (link_target h i m))
 
 pub orders_permute : OrdersPermute
 orders_permute h l = (rank.is_permutation (diffs h) h.n_refs l, topo.is_permutation (links_of h) h.n_refs l (links_among h l))

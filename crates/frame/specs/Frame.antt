@@ -1,5 +1,5 @@
 -- The setup record (01 "Setup record"; init_frame). Assumes nothing.
-use Rattle.std.specs.Prelude.{ℕ, zero, suc, ◌+◌, ◌*◌, ◌≤◌, ◌<◌, Bool, true, false, not, cond, ◌&&◌, ◌||◌, List, ltb, leb, eqb, ℤ, pos, negsuc, nat_abs, ◌≤ℤ◌, get_or, set, replicate}
+use Rattle.std.specs.Prelude.{ℕ, zero, suc, ◌+◌, ◌*◌, ◌≤◌, ◌<◌, Bool, true, false, not, cond, ◌&&◌, ◌||◌, ⊤, Result, Ok, Err, List, ltb, leb, eqb, ℤ, pos, negsuc, nat_abs, ◌≤ℤ◌, get_or, set, replicate}
 use Rattle.std.specs.Int.Signed.{lt_z}
 use mir.Val.{bool_byte}
 use Rattle.loops.specs.Over.{span}
@@ -12,7 +12,7 @@ use Rattle.picks.specs.declared.Pocs.{Pocs}
 use Rattle.picks.specs.declared.MfmvRef.{MfmvRef}
 use Rattle.picks.specs.declared.Picks.{Picks}
 use Rattle.picks.specs.Hints.{hint_of}
-use Rattle.picks.specs.Picks.{neighbours, nearest, rest}
+use Rattle.picks.specs.Picks.{pushed, neighbours, nearest, rest}
 use Rattle.entry.specs.declared.Source.{Source}
 use Rattle.entry.specs.Entry.{source_of, ratio_z}
 use Rattle.rank.specs.Rank.{sorted}
@@ -22,9 +22,8 @@ use Rattle.frame.specs.declared.Sources.{Sources}
 use Rattle.frame.specs.declared.Tip.{Tip}
 use Rattle.frame.specs.declared.Header.{Header}
 use Rattle.frame.specs.declared.Frame.{Frame}
-use Rattle.frame.specs.declared.Setup.{Setup}
-use Rattle.frame.specs.declared.Said.{Said}
-use Rattle.frame.specs.declared.Said.TheVariants.{Accepted, TooManyBits, TooManySlots, BadSuperblock, BadStep, BadSize, BadTipSlot}
+use Rattle.levels.specs.declared.Refusal.{Refusal}
+use Rattle.levels.specs.Answer.{number_of}
 
 -- where the leading run of the k sorted slots from l on whose sign is set ends (first_fut). Earlier: the sign is set; later: it is not, so also the frame's own hint. A slot half the range away has its sign set and a negative difference, and may stand past this run
 unfoldable pub leading : List Bool → List Slot → ℕ → ℕ → ℕ
@@ -44,15 +43,13 @@ put_taken present i p =
 unfoldable pub started : List Bool → ℕ → Picks
 started present n = span (put_taken present) 0 n (record { list = replicate 4 no_pick; count = 0; taken = replicate 14 false })
 
--- slot s is appended with the target t: direction 1 where s's hint is before t's, else 0; whether s is taken or has a plane is not asked
-unfoldable pub tip_put : Pocs → Slot → Slot → Picks → Picks
-tip_put h s t p =
-    let dir = bool_byte (lt_z (hint_diff h.nbits (hint_of h s.0) (hint_of h t.0)) (pos 0)) in
-    record {
-      list = set p.list p.count (record { reference = s; tgt = pos t.0; dir = dir });
-      count = p.count + 1;
-      taken = set p.taken (s.0 * 2 + dir) true;
-    }
+-- slot s with the target t: direction 1 where s's hint is before t's, else 0
+abbrev pub tip_pick : Pocs → Slot → Slot → MfmvRef
+tip_pick h s t = record { reference = s; tgt = pos t.0; dir = bool_byte (lt_z (hint_diff h.nbits (hint_of h s.0) (hint_of h t.0)) (pos 0)) }
+
+-- it is appended; whether s is taken or has a plane is not asked
+abbrev pub tip_put : Pocs → Slot → Slot → Picks → Picks
+tip_put h s t p = pushed (tip_pick h s t) p
 
 -- the TIP source: of the pair, the slot that stands later in the dependency order
 unfoldable pub tip_add : Pocs → List ℕ → Slot → Slot → Picks → Picks
@@ -60,8 +57,7 @@ tip_add h place a b p = cond (ltb (get_or place b.0 0) (get_or place a.0 0)) (ti
 
 -- where TIP is on and one of the pair is earlier than the frame
 unfoldable pub with_tip : Pocs → Bool → List Bool → List ℕ → Slot → Slot → Picks → Picks
-with_tip h on sign place a b p =
-    cond on (cond (get_or sign a.0 false) (tip_add h place a b p) (cond (get_or sign b.0 false) (tip_add h place a b p) p)) p
+with_tip h on sign place a b p = cond (on && (get_or sign a.0 false || get_or sign b.0 false)) (tip_add h place a b p) p
 
 -- TIP pair, two rounds of neighbours, nearest earlier slots, then the dependency order from its end
 unfoldable pub picked : Pocs → List Bool → Bool → Slot → Slot → Picks
@@ -159,6 +155,14 @@ tip_of h mode both a b =
 
 -- ---- the refusals
 
+-- what a test answers: its refusal where the header is bad
+abbrev pub refused_if : Bool → Refusal → Result ⊤ Refusal
+refused_if bad e = cond bad (Err e) (Ok tt)
+
+-- refusal 5: above 2
+unfoldable pub bad_superblock : ℕ → Bool
+bad_superblock n = ltb 2 n
+
 -- refusal 6: not 1 or 2
 unfoldable pub bad_step : ℕ → Bool
 bad_step n = not (eqb n 1 || eqb n 2)
@@ -187,7 +191,7 @@ unfoldable pub refusal_of : Header → ℕ
 refusal_of f =
     cond (ltb 8 f.pocs.nbits) 3
     (cond (ltb 7 f.pocs.n_refs) 4
-    (cond (ltb 2 f.sb128) 5
+    (cond (bad_superblock f.sb128) 5
     (cond (bad_step f.tmvp_sample_step) 6
     (cond (bad_size f.width || bad_size f.height) 7
     (cond (bad_tip f) 8 0)))))
@@ -241,19 +245,10 @@ pub record SaidSetup : Type 0 where
   pub refusal : ℕ
   pub frame : Frame
 
--- each case's number
-abbrev pub number_of : Said → ℕ
-number_of Accepted = 0
-number_of TooManyBits = 3
-number_of TooManySlots = 4
-number_of BadSuperblock = 5
-number_of BadStep = 6
-number_of BadSize = 7
-number_of BadTipSlot = 8
-
 -- number and record of an answer
-abbrev pub says_setup : Setup → SaidSetup
-says_setup s = record { refusal = number_of s.said; frame = s.frame }
+abbrev pub says_setup : Result Frame Refusal → SaidSetup
+says_setup (Ok f) = record { refusal = 0; frame = f }
+says_setup (Err e) = record { refusal = number_of e; frame = zero_frame }
 
 -- init_frame: the record, or the number of the refusal beside a record of zeros
 unfoldable pub setup_of : Header → SaidSetup

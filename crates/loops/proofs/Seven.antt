@@ -1,5 +1,8 @@
 -- Filling an array of seven, entry after entry. Assumes nothing.
-use Rattle.std.proofs.Common.{◌≡◌, refl, ap, ◌∙◌, List, ℕ, zero, suc, ◌+◌, ◌≤◌, ◌<◌, arith, get_or, set, replicate}
+use Rattle.std.proofs.Common.{length, ◌≡◌, refl, sym, ap, ◌∙◌, List, ℕ, zero, suc, ◌+◌, ◌≤◌, ◌<◌, arith, get_or, set, replicate}
+use Rattle.std.proofs.lemmas.List.{ext_get_or}
+use Rattle.std.specs.Fn.{Called, Mut}
+use Rattle.std.specs.Array.{IsFromFnResult, IsFromFnResultFrom}
 use Rattle.loops.specs.Over.{over, span}
 use Rattle.loops.specs.Seven.{seven, first_seven, storing}
 use Rattle.loops.proofs.Turns.{turned, ended}
@@ -51,3 +54,22 @@ seven_all P f d p h (suc (suc (suc (suc zero)))) = h 4
 seven_all P f d p h (suc (suc (suc (suc (suc zero))))) = h 5
 seven_all P f d p h (suc (suc (suc (suc (suc (suc zero)))))) = h 6
 seven_all P f d p h (suc (suc (suc (suc (suc (suc (suc k))))))) = p
+
+-- an array that `from_fn` made by a function which, below n, answers what P says, and which a call leaves as it was
+module _ {F B : Type 0} (g : Mut F (ℕ × Unit {0}) B) (P : ℕ → B → Type 0) (f : F) (n : ℕ) (is : (i : ℕ) (y : B) (q : F) → i < n → Called g f (i, tt) y q → (q ≡ f) × P i y) where
+  made_from : (ys : List B) (d : B) (m i : ℕ) (p : F) → p ≡ f → i + m ≡ n → IsFromFnResultFrom g p ys i m → (j k : ℕ) → i + j ≡ k → j < m → P k (get_or ys k d)
+  made_from ys d zero i p e s r j k a l = absurd (omega arith)
+  made_from ys d (suc m) i p e s (q, y, el, c, rest) zero k a l = let b : i ≡ k = omega arith in rw (← b, el.1 d) (is i y q (omega arith) (rw e at c)).1
+  made_from ys d (suc m) i p e s (q, y, el, c, rest) (suc j) k a l = made_from ys d m (i + 1) q (is i y q (omega arith) (rw e at c)).0 (omega arith) rest j k (omega arith) (omega arith)
+
+  pub made : (ys : List B) → IsFromFnResult g f ys n → (d : B) (i : ℕ) → i < n → P i (get_or ys i d)
+  made ys r d i l = made_from ys d n 0 f refl (omega arith) r.each i i (omega arith) l
+
+-- seven entries that are f's
+pub seven_is : {A : Type 0} (f : ℕ → A) (d : A) (xs : List A) → length xs ≡ 7 → ((i : ℕ) → i < 7 → get_or xs i d ≡ f i) → xs ≡ seven f
+seven_is f d xs e h = ext_get_or d xs (seven f) e (λ i l. let b : i < 7 = omega (arith, e) in h i b ∙ sym (seven_at f d i b))
+
+-- an array of seven that `from_fn` made by a function which is h
+pub made_is : {F B : Type 0} (g : Mut F (ℕ × Unit {0}) B) (f : F) (h : ℕ → B) → ((i : ℕ) (y : B) (q : F) → i < 7 → Called g f (i, tt) y q → (q ≡ f) × (y ≡ h i))
+    → (ys : List B) → IsFromFnResult g f ys 7 → ys ≡ seven h
+made_is g f h is ys r = seven_is h (h 0) ys r.long (made g (λ i y. y ≡ h i) f 7 is ys r (h 0))

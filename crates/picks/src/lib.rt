@@ -1,13 +1,15 @@
 // The picking of the sources.
 #![tactic(auto)]
 
-ghost use Rattle.std.specs.Prelude.{◌≡◌, ◌+◌, ◌≤◌, ◌<◌};
-ghost use Rattle.picks.specs.Hints.{saved_diff_of, same_side, closer_of, closest_of, on_side_of, some_on_side_of};
-ghost use Rattle.picks.specs.Picks.{Valid, Slots, offered, with_side, earlier, later, nearer_earlier, in_turn, neighbours, nth_earlier, nearest, both_ways, rest};
+ghost use Rattle.std.specs.Prelude.{◌≡◌, ◌≤◌, ◌<◌, ◌+◌, IfOk};
+ghost use Rattle.levels.specs.Answer.{refusal_of};
+ghost use Rattle.env.specs.Hints.{hint_diff};
+ghost use Rattle.picks.specs.Hints.{hint_of, hints_refusal, saved_diff_of, same_side, closer_of, closest, on_side, some_on_side};
+ghost use Rattle.picks.specs.Picks.{Valid, Slots, pushed, offered, with_side, nearer_earlier, in_turn, neighbours, nth_earlier, nth_later, nearest, both_ways, rest};
 
-use levels::{OrderHint, Slot};
+use levels::{OrderHint, Refusal, Slot};
 
-// The hints that were saved with a slot: its references', and how many those are.
+/// The order hints that were saved with a slot: its references', and how many those are.
 #[repr(C)]
 #[derive(Clone, Copy)]
 pub struct Saved {
@@ -15,83 +17,159 @@ pub struct Saved {
     pub refcnt: u8,
 }
 
+/// The order hints that a header states: the frame's, its slots', and those that were saved with each slot. Any numbers.
 #[derive(Clone, Copy)]
 pub struct Pocs {
+    /// How many bits an order hint has.
     pub nbits: u32,
+    /// The frame's own hint.
     pub poc: OrderHint,
+    /// How many slots are in use, the first of the seven.
     pub n_refs: usize,
     pub ref_poc: [OrderHint; 7],
     pub saved: [Saved; 7],
 }
 
-// From the slot's reference n to the hint a, 0 where the slot has no references.
-fn saved_diff(nbits: u32, a: OrderHint, s: Saved, n: usize) -> i32
-    requires { (nbits ≤ 8) × (n < 7) }
-    ensures { result ≡ saved_diff_of nbits a s n }
-{
-    let b = s.ref_poc[n];
-    let d = env::poc_diff(nbits, a, b);
-    if s.refcnt == 0 { 0 } else { d }
-}
-
-fn same_side(a: i32, c: i32, dir: bool) -> bool
-    ensures { result ≡ same_side a c dir }
-{
-    if dir {
-        (0 < a) & (0 < c)
-    } else {
-        (a < 0) & (c < 0)
-    }
-}
-
-fn nearer(nbits: u32, a: OrderHint, poc: OrderHint, s: Saved, dir: bool, n: usize, b: u32) -> u32
-    requires { (nbits ≤ 8) × (n < 7) }
-    ensures { result ≡ closer_of nbits a poc s dir n b }
-{
-    let d = saved_diff(nbits, a, s, n);
-    let e = saved_diff(nbits, poc, s, n);
-    let m = intops::unsigned_abs(d);
-    let t = same_side(d, e, dir) & (m < b);
-    if t { m } else { b }
-}
-
-fn abs_closest_ref(nbits: u32, a: OrderHint, poc: OrderHint, s: Saved, dir: bool) -> u32
-    requires { nbits ≤ 8 }
-    ensures { result ≡ closest_of nbits a poc s dir }
-{
-    let mut b: u32 = 255;
-    for n in 0..7 {
-        b = nearer(nbits, a, poc, s, dir, n, b);
-    }
-    b
-}
-
-fn on_side(nbits: u32, a: OrderHint, s: Saved, late: bool, n: usize, b: bool) -> bool
-    requires { (nbits ≤ 8) × (n < 7) }
-    ensures { result ≡ on_side_of nbits a s late n b }
-{
-    let d = saved_diff(nbits, a, s, n);
-    if late { b | (d < 0) } else { b | (0 < d) }
-}
-
-fn some_on_side(nbits: u32, a: OrderHint, s: Saved, late: bool) -> bool
-    requires { nbits ≤ 8 }
-    ensures { result ≡ some_on_side_of nbits a s late }
-{
-    let mut b = false;
-    for n in 0..7 {
-        b = on_side(nbits, a, s, late, n, b);
-    }
-    b
-}
-
-// What may be picked.
+/// The order hints of a header that refusals 3 and 4 let through: at most 8 bits, at most seven slots in use.
 #[derive(Clone, Copy)]
-pub enum Candidate {
-    Nothing,
-    At(Slot),
+pub struct Hints {
+    pub pocs: Pocs,
+
+    ghost few_bits: { pocs.nbits ≤ 8 },
+
+    ghost few_slots: { pocs.n_refs ≤ 7 },
 }
 
+impl TryFrom<Pocs> for Hints {
+    type Error = Refusal;
+
+    ghost try_from_gives = { λ pocs r. (refusal_of r ≡ hints_refusal pocs) × IfOk r (λ h. h.pocs ≡ pocs) };
+
+    #[tactic(auto, unfolding(crate::specs::Hints::hints_refusal))]
+    fn try_from(pocs: Pocs) -> Result<Hints, Refusal> {
+        if 8 < pocs.nbits {
+            return Err(Refusal::TooManyBits);
+        }
+        if 7 < pocs.n_refs {
+            return Err(Refusal::TooManySlots);
+        }
+        Ok(Hints { pocs })
+    }
+}
+
+impl Hints {
+    /// From the hint b to the hint a: get_poc_diff, with the header's bits.
+    pub fn diff(&self, a: OrderHint, b: OrderHint) -> i32
+        ensures { result ≡ hint_diff self.now.pocs.nbits a b }
+    {
+        env::poc_diff(self.pocs.nbits, a, b)
+    }
+
+    /// The hint of a slot.
+    pub fn hint(&self, s: Slot) -> OrderHint
+        requires { s.0 < 7 }
+        ensures { result ≡ hint_of self.now.pocs s.0 }
+    {
+        self.pocs.ref_poc[s.index()]
+    }
+
+    // From reference n of slot s to the hint a, 0 where the slot has no references.
+    #[tactic(auto, unfolding(crate::specs::Hints::saved_diff_of))]
+    fn saved_diff(&self, a: OrderHint, s: Slot, n: usize) -> i32
+        requires slot { s.0 < 7 }
+        requires reference { n < 7 }
+        ensures { result ≡ saved_diff_of self.now.pocs a s.0 n }
+    {
+        let saved = &self.pocs.saved[s.index()];
+        if saved.refcnt == 0 {
+            0
+        } else {
+            self.diff(a, saved.ref_poc[n])
+        }
+    }
+
+    // The lesser of b and the distance from slot s to its reference n, where that is on the same side of the slot and of the frame.
+    #[tactic(auto, unfolding(crate::specs::Hints::closer_of))]
+    fn nearer(&self, s: Slot, late: bool, n: usize, b: u32) -> u32
+        requires slot { s.0 < 7 }
+        requires reference { n < 7 }
+        ensures { result ≡ closer_of self.now.pocs s.0 late n b }
+    {
+        let d = self.saved_diff(self.hint(s), s, n);
+        let e = self.saved_diff(self.pocs.poc, s, n);
+        let m = d.unsigned_abs();
+        if same_side(d, e, late) && m < b { m } else { b }
+    }
+
+    // abs_closest_ref: the least such distance, 255 if there is none.
+    #[tactic(auto, using(loops::proofs::Turns::span_turn, loops::proofs::Turns::span_end), unfolding(crate::specs::Hints::closest))]
+    fn abs_closest_ref(&self, s: Slot, late: bool) -> u32
+        requires { s.0 < 7 }
+        ensures { result ≡ closest self.now.pocs s.0 late }
+    {
+        let mut b: u32 = 255;
+        for n in 0..7 {
+            b = self.nearer(s, late, n, b);
+        }
+        b
+    }
+
+    // Is reference n of slot s later than the slot, or with late off earlier?
+    #[tactic(auto, unfolding(crate::specs::Hints::on_side))]
+    fn is_on_side(&self, s: Slot, late: bool, n: usize) -> bool
+        requires slot { s.0 < 7 }
+        requires reference { n < 7 }
+        ensures { result ≡ on_side self.now.pocs s.0 late n }
+    {
+        let d = self.saved_diff(self.hint(s), s, n);
+        if late { d < 0 } else { 0 < d }
+    }
+
+    // have_ref_sign: has slot s a reference later than itself, or with late off an earlier one?
+    #[tactic(auto, using(loops::proofs::Turns::span_turn, loops::proofs::Turns::span_end), unfolding(crate::specs::Hints::some_on_side))]
+    fn has_on_side(&self, s: Slot, late: bool) -> bool
+        requires { s.0 < 7 }
+        ensures { result ≡ some_on_side self.now.pocs s.0 late }
+    {
+        let mut b = false;
+        for n in 0..7 {
+            b |= self.is_on_side(s, late, n);
+        }
+        b
+    }
+
+    // A candidate, if it has a reference on the wanted side.
+    #[tactic(auto, unfolding(crate::specs::Picks::with_side))]
+    fn with_side(&self, candidate: Option<Slot>, late: bool) -> Option<Slot>
+        requires { Valid candidate }
+        ensures value { result ≡ with_side self.now.pocs late candidate }
+        ensures slot { Valid result }
+    {
+        candidate.filter(|s| self.has_on_side(*s, late))
+    }
+
+    // Does the earlier neighbour come first?
+    #[tactic(auto, unfolding(crate::specs::Picks::nearer_earlier))]
+    fn earlier_first(&self, a: Option<Slot>, b: Option<Slot>) -> bool
+        requires earlier { Valid a }
+        requires later { Valid b }
+        ensures { result ≡ nearer_earlier self.now.pocs a b }
+    {
+        let (Some(a), Some(b)) = (a, b) else {
+            return false;
+        };
+        self.abs_closest_ref(a, false) < self.abs_closest_ref(b, true)
+    }
+}
+
+// Are both differences above 0, or with late off both below?
+fn same_side(d: i32, e: i32, late: bool) -> bool
+    ensures { result ≡ same_side d e late }
+{
+    if late { 0 < d && 0 < e } else { d < 0 && e < 0 }
+}
+
+/// A source that is picked: its slot, its target slot or -1 for any, and the direction, 1 or 0.
 #[derive(Clone, Copy)]
 pub struct MfmvRef {
     pub reference: Slot,
@@ -99,7 +177,7 @@ pub struct MfmvRef {
     pub dir: u8,
 }
 
-// The sources so far, and which of a slot's two directions are taken: 2 * slot + direction.
+/// The sources so far, and which of a slot's two directions are taken: 2 * slot + direction.
 #[derive(Clone, Copy)]
 pub struct Picks {
     pub list: [MfmvRef; 4],
@@ -107,171 +185,133 @@ pub struct Picks {
     pub taken: [bool; 14],
 }
 
-// The candidate is appended if it is not taken and fewer than `limit` are there.
-fn offer(p: Picks, limit: usize, c: Candidate, dir: u8) -> Picks
-    requires { (limit ≤ 4) × (dir < 2) × Valid c }
-    ensures { result ≡ offered limit c dir p }
-{
-    match c {
-        Candidate::Nothing => p,
-        Candidate::At(s) => {
-            let k = p.count;
-            if limit <= k {
-                return p;
-            }
-            let at = levels::slot_index(s) * 2 + (dir as usize);
-            let t = p.taken[at];
-            if t {
-                return p;
-            }
-            let mut q = p;
-            let one = MfmvRef {
-                reference: s,
+impl Picks {
+    /// Appends a source, and takes its slot in its direction.
+    pub fn push(&mut self, source: MfmvRef)
+        requires room { self.old.count < 4 }
+        requires slot { source.reference.0 < 7 }
+        requires direction { source.dir < 2 }
+        ensures { self.new ≡ pushed source self.old }
+    {
+        self.list[self.count] = source;
+        self.taken[source.reference.index() * 2 + usize::from(source.dir)] = true;
+        self.count += 1;
+    }
+
+    // Appends a slot in a direction, if it is not taken and fewer than `limit` sources are there.
+    #[tactic(auto, unfolding(crate::specs::Picks::offered))]
+    fn offer(&mut self, limit: usize, slot: Option<Slot>, dir: u8)
+        requires few { limit ≤ 4 }
+        requires slot { Valid slot }
+        requires direction { dir < 2 }
+        ensures { self.new ≡ offered limit slot dir self.old }
+    {
+        let Some(reference) = slot else {
+            return;
+        };
+        if self.count < limit && !self.taken[reference.index() * 2 + usize::from(dir)] {
+            self.push(MfmvRef {
+                reference,
                 tgt: -1,
                 dir,
-            };
-            q.list[k] = one;
-            q.taken[at] = true;
-            q.count = k + 1;
-            q
+            });
+        }
+    }
+
+    // Both neighbours, the nearer first.
+    #[tactic(auto, unfolding(crate::specs::Picks::in_turn))]
+    fn in_turn(&mut self, h: &Hints, a: Option<Slot>, b: Option<Slot>)
+        requires earlier { Valid a }
+        requires later { Valid b }
+        ensures { self.new ≡ in_turn h.now.pocs a b self.old }
+    {
+        if h.earlier_first(a, b) {
+            self.offer(3, a, 1);
+            self.offer(3, b, 0);
+        } else {
+            self.offer(3, b, 0);
+            self.offer(3, a, 1);
+        }
+    }
+
+    /// Two rounds of the neighbours of the frame in the sorted order, of which `first` slots are earlier: up to three sources.
+    #[tactic(auto, using(loops::proofs::Turns::span_turn, loops::proofs::Turns::span_end), unfolding(crate::specs::Picks::neighbours))]
+    pub fn pick_neighbours(&mut self, h: &Hints, order: &[Slot; 7], first: usize)
+        requires first { first ≤ 7 }
+        requires slots { Slots order.now }
+        ensures { self.new ≡ neighbours h.now.pocs order.now first self.old }
+    {
+        for n in 0..2 {
+            let a = h.with_side(nth_earlier(order, first, n + 1), true);
+            let b = h.with_side(nth_later(order, first, h.pocs.n_refs, n), false);
+            self.in_turn(h, a, b);
+        }
+    }
+
+    /// The two nearest earlier slots: up to three sources.
+    #[tactic(auto, unfolding(crate::specs::Picks::nearest))]
+    pub fn pick_nearest(&mut self, order: &[Slot; 7], first: usize)
+        requires first { first ≤ 7 }
+        requires slots { Slots order.now }
+        ensures { self.new ≡ nearest order.now first self.old }
+    {
+        self.offer(3, nth_earlier(order, first, 1), 0);
+        self.offer(3, nth_earlier(order, first, 2), 0);
+    }
+
+    // A slot's two directions, the one towards the frame first.
+    #[tactic(auto, unfolding(crate::specs::Picks::both_ways))]
+    fn both_ways(&mut self, diffs: &[i8; 7], s: Slot)
+        requires { s.0 < 7 }
+        ensures { self.new ≡ both_ways diffs.now s self.old }
+    {
+        let first = u8::from(0 <= diffs[s.index()]);
+        self.offer(4, Some(s), first);
+        self.offer(4, Some(s), 1 - first);
+    }
+
+    /// The first `count` slots of the dependency order, from its end: up to four sources.
+    #[tactic(auto, using(loops::proofs::Turns::span_turn, loops::proofs::Turns::span_end), unfolding(crate::specs::Picks::rest))]
+    pub fn pick_rest(&mut self, diffs: &[i8; 7], list: &[Slot; 7], count: usize)
+        requires count { count ≤ 7 }
+        requires slots { Slots list.now }
+        ensures { self.new ≡ rest diffs.now list.now count self.old }
+    {
+        for n in 0..count {
+            self.both_ways(diffs, list[count - 1 - n]);
         }
     }
 }
 
-// A slot that has a reference on the wanted side.
-fn with_side(h: Pocs, s: Slot, late: bool) -> Candidate
-    requires { (h.nbits ≤ 8) × (s.0 < 7) }
-    ensures { result ≡ with_side h late s }
-{
-    let at = levels::slot_index(s);
-    let sv = h.saved[at];
-    let a = h.ref_poc[at];
-    if some_on_side(h.nbits, a, sv, late) {
-        Candidate::At(s)
-    } else {
-        Candidate::Nothing
-    }
-}
-
-// The earlier neighbour n, if it has a later reference.
-fn earlier_neighbour(h: Pocs, order: [Slot; 7], first: usize, n: usize) -> Candidate
-    requires { (h.nbits ≤ 8) × (first ≤ 7) × Slots order }
-    ensures { result ≡ earlier h order first n }
-{
-    if first <= n {
-        return Candidate::Nothing;
-    }
-    let s = order[first - n - 1];
-    with_side(h, s, true)
-}
-
-// The later neighbour n, if it has an earlier reference.
-fn later_neighbour(h: Pocs, order: [Slot; 7], first: usize, n: usize) -> Candidate
-    requires { (h.nbits ≤ 8) × (first ≤ 7) × (h.n_refs ≤ 7) × (n ≤ 7) × Slots order }
-    ensures { result ≡ later h order first n }
-{
-    if h.n_refs <= first + n {
-        return Candidate::Nothing;
-    }
-    let s = order[first + n];
-    with_side(h, s, false)
-}
-
-// Does the earlier neighbour come first?
-fn earlier_first(h: Pocs, a: Candidate, b: Candidate) -> bool
-    requires { (h.nbits ≤ 8) × Valid a × Valid b }
-    ensures { result ≡ nearer_earlier h a b }
-{
-    let Candidate::At(x) = a else {
-        return false;
-    };
-    let Candidate::At(y) = b else {
-        return false;
-    };
-    let i = levels::slot_index(x);
-    let si = h.saved[i];
-    let ai = h.ref_poc[i];
-    let m = abs_closest_ref(h.nbits, ai, h.poc, si, false);
-    let j = levels::slot_index(y);
-    let sj = h.saved[j];
-    let aj = h.ref_poc[j];
-    let n = abs_closest_ref(h.nbits, aj, h.poc, sj, true);
-    m < n
-}
-
-fn in_turn(h: Pocs, a: Candidate, b: Candidate, p: Picks) -> Picks
-    requires { (h.nbits ≤ 8) × Valid a × Valid b }
-    ensures { result ≡ in_turn h a b p }
-{
-    if earlier_first(h, a, b) {
-        let q = offer(p, 3, a, 1);
-        offer(q, 3, b, 0)
-    } else {
-        let q = offer(p, 3, b, 0);
-        offer(q, 3, a, 1)
-    }
-}
-
-pub fn pick_neighbours(h: Pocs, order: [Slot; 7], first: usize, p: Picks) -> Picks
-    requires { (h.nbits ≤ 8) × (first ≤ 7) × (h.n_refs ≤ 7) × Slots order }
-    ensures { result ≡ neighbours h order first p }
-{
-    let mut q = p;
-    for n in 0..2 {
-        let a = earlier_neighbour(h, order, first, n);
-        let b = later_neighbour(h, order, first, n);
-        q = in_turn(h, a, b, q);
-    }
-    q
-}
-
 // The k-th slot before the first later one.
-fn nth_earlier(order: [Slot; 7], first: usize, k: usize) -> Candidate
-    requires { (first ≤ 7) × (0 < k) }
-    ensures { result ≡ nth_earlier order first k }
+#[tactic(auto, unfolding(crate::specs::Picks::nth_earlier))]
+fn nth_earlier(order: &[Slot; 7], first: usize, k: usize) -> Option<Slot>
+    requires first { first ≤ 7 }
+    requires counted { 0 < k }
+    requires slots { Slots order.now }
+    ensures value { result ≡ nth_earlier order.now first k }
+    ensures slot { Valid result }
 {
     if first < k {
-        return Candidate::Nothing;
-    }
-    let s = order[first - k];
-    Candidate::At(s)
-}
-
-pub fn pick_nearest(order: [Slot; 7], first: usize, p: Picks) -> Picks
-    requires { (first ≤ 7) × Slots order }
-    ensures { result ≡ nearest order first p }
-{
-    let a = nth_earlier(order, first, 1);
-    let b = nth_earlier(order, first, 2);
-    let q = offer(p, 3, a, 0);
-    offer(q, 3, b, 0)
-}
-
-// A slot's two directions, the one towards the frame first.
-fn both_ways(diffs: [i8; 7], s: Slot, p: Picks) -> Picks
-    requires { s.0 < 7 }
-    ensures { result ≡ both_ways diffs s p }
-{
-    let at = levels::slot_index(s);
-    let d = diffs[at];
-    if 0 <= d {
-        let q = offer(p, 4, Candidate::At(s), 1);
-        offer(q, 4, Candidate::At(s), 0)
+        None
     } else {
-        let q = offer(p, 4, Candidate::At(s), 0);
-        offer(q, 4, Candidate::At(s), 1)
+        Some(order[first - k])
     }
 }
 
-// The dependency order from its end.
-pub fn pick_rest(diffs: [i8; 7], list: [Slot; 7], count: usize, p: Picks) -> Picks
-    requires { (count ≤ 7) × Slots list }
-    ensures { result ≡ rest diffs list count p }
+// The n-th slot from the first later one on, of `count` in all, counted from 0.
+#[tactic(auto, unfolding(crate::specs::Picks::nth_later))]
+fn nth_later(order: &[Slot; 7], first: usize, count: usize, n: usize) -> Option<Slot>
+    requires first { first ≤ 7 }
+    requires count { count ≤ 7 }
+    requires counted { n ≤ 7 }
+    requires slots { Slots order.now }
+    ensures value { result ≡ nth_later order.now first count n }
+    ensures slot { Valid result }
 {
-    let mut q = p;
-    for n in 0..count {
-        let s = list[count - 1 - n];
-        q = both_ways(diffs, s, q);
+    if count <= first + n {
+        None
+    } else {
+        Some(order[first + n])
     }
-    q
 }

@@ -1,17 +1,15 @@
 -- What the setup keeps of each slot in use (01 "Setup record"; the first loops of init_frame). Assumes nothing.
-use Rattle.std.specs.Prelude.{ℕ, ◌+◌, ◌*◌, ◌/◌, ◌%◌, ◌^◌, Bool, false, cond, List, ltb, eqb, ℤ, pos, negsuc, nat_abs, get_or, set, replicate}
+use Rattle.std.specs.Prelude.{ℕ, ◌+◌, ◌*◌, ◌^◌, Bool, false, cond, List, Option, Some, None, ltb, eqb, ℤ, pos, negsuc, nat_abs, get_or}
 use Rattle.std.specs.Bool.{beq}
 use Rattle.std.specs.Int.Signed.{lt_z}
 use mir.Val.{bool_byte}
 use Rattle.loops.specs.Over.{span}
-use Rattle.loops.specs.Seven.{first_seven}
+use Rattle.loops.specs.Seven.{seven, first_seven}
 use Rattle.intops.specs.Choice.{clip_z}
 use Rattle.env.specs.Hints.{hint_diff}
 use Rattle.picks.specs.declared.Pocs.{Pocs}
-use Rattle.levels.specs.declared.OrderHint.{OrderHint}
 use Rattle.levels.specs.declared.Slot.{Slot}
-use Rattle.levels.specs.Slots.{slot, no_link}
-use Rattle.picks.specs.declared.Saved.{Saved}
+use Rattle.levels.specs.Slots.{slot}
 use Rattle.picks.specs.Hints.{no_hint, hint_of, saved_of}
 use Rattle.entry.specs.Entry.{found}
 
@@ -56,20 +54,19 @@ add_row h sign i m = m + flip_row h sign i * 2 ^ (8 * i)
 unfoldable pub flip_mask : Pocs → List Bool → ℕ
 flip_mask h sign = span (add_row h sign) 0 h.n_refs 0
 
--- for the dependency order (refref2curref_idx): the first of the slots in use with the hint of reference n, or none; a slot with reference count 0 has none
-unfoldable pub link_in : List OrderHint → Saved → ℕ → ℕ → Slot
-link_in hints s refs n =
-    let i = found hints (get_or s.ref_poc n no_hint) refs 0 in
-    cond (eqb s.refcnt 0) no_link (cond (ltb i refs) (slot i) no_link)
+-- the slot of a number, if there is one
+abbrev pub slot_if : Option ℕ → Option Slot
+slot_if None = None
+slot_if (Some k) = Some (slot k)
 
--- that of slot i
-abbrev pub link_of : Pocs → ℕ → ℕ → Slot
-link_of h i n = link_in h.ref_poc (saved_of h i) h.n_refs n
+-- for the dependency order (refref2curref_idx): the first of the slots in use with the hint of slot i's reference n, or none; a slot with reference count 0 has none
+unfoldable pub link_of : Pocs → ℕ → ℕ → Option Slot
+link_of h i n = cond (eqb (saved_of h i).refcnt 0) None (slot_if (found h.ref_poc (get_or (saved_of h i).ref_poc n no_hint) h.n_refs 0))
 
--- reference n of slot i at place 7 i + n
-abbrev pub put_link : Pocs → ℕ → List Slot → List Slot
-put_link h k g = set g k (link_of h (k / 7) (k % 7))
+-- those of slot i; a slot that is not in use has none
+unfoldable pub links_from : Pocs → ℕ → List (Option Slot)
+links_from h i = seven (λ n. cond (ltb i h.n_refs) (link_of h i n) None)
 
--- the links of the slots in use; the others have none
-unfoldable pub links_of : Pocs → List Slot
-links_of h = span (put_link h) 0 (7 * h.n_refs) (replicate 49 no_link)
+-- the links of all seven slots
+unfoldable pub links_of : Pocs → List (List (Option Slot))
+links_of h = seven (links_from h)

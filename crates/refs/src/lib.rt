@@ -2,142 +2,141 @@
 // the dependency order follows.
 #![tactic(auto)]
 
-ghost use Rattle.std.specs.Prelude.{◌≡◌, ◌≤◌, ◌<◌, pos, nat_abs};
+ghost use Rattle.std.specs.Prelude.{◌≡◌, ◌<◌, pos, nat_abs};
 ghost use Rattle.std.specs.Int.Signed.{lt_z};
 ghost use Rattle.env.specs.Hints.{hint_diff};
-ghost use Rattle.refs.specs.Refs.{is_earlier, clipped, signs, diffs, abs_diffs, link_in, links_of, flips_of, flip_row, flip_mask};
+ghost use Rattle.refs.specs.Refs.{is_earlier, clipped, signs, diffs, abs_diffs, link_of, links_from, links_of, flips_of, flip_row, flip_mask};
 
-use levels::{NO_LINK, OrderHint, Slot};
-use picks::{Pocs, Saved};
+use levels::{OrderHint, Slot};
+use picks::Hints;
+use std::array;
 
-// Is slot i earlier than the frame?
-pub fn is_earlier(h: Pocs, i: usize) -> bool
-    requires { (h.nbits ≤ 8) × (i < 7) }
-    ensures { result ≡ is_earlier h i }
+/// Is slot i earlier than the frame: ref_sign?
+#[tactic(auto, unfolding(crate::specs::Refs::is_earlier))]
+pub fn is_earlier(h: &Hints, i: usize) -> bool
+    requires { i < 7 }
+    ensures { result ≡ is_earlier h.now.pocs i }
 {
-    let a = h.ref_poc[i];
-    env::poc_diff(h.nbits, a, h.poc) < 0
+    h.diff(h.pocs.ref_poc[i], h.pocs.poc) < 0
 }
 
-// The clipped difference from slot i to the frame.
-pub fn clipped_diff(h: Pocs, i: usize) -> i8
-    requires { (h.nbits ≤ 8) × (i < 7) }
-    ensures { result ≡ clipped h i }
+/// The clipped difference from slot i to the frame: pocdiff.
+pub fn clipped_diff(h: &Hints, i: usize) -> i8
+    requires { i < 7 }
+    ensures { result ≡ clipped h.now.pocs i }
 {
-    let a = h.ref_poc[i];
-    intops::iclip(env::poc_diff(h.nbits, h.poc, a), -31, 31) as i8
+    intops::iclip(h.diff(h.pocs.poc, h.pocs.ref_poc[i]), -31, 31) as i8
 }
 
-pub fn all_signs(h: Pocs) -> [bool; 7]
-    requires { (h.nbits ≤ 8) × (h.n_refs ≤ 7) }
-    ensures { result ≡ signs h }
+/// Its magnitude: abspocdiff.
+pub fn abs_diff(h: &Hints, i: usize) -> u8
+    requires { i < 7 }
+    ensures { result ≡ nat_abs (clipped h.now.pocs i) }
 {
-    let n = h.n_refs;
-    let mut out = [false; 7];
-    for i in 0..n {
-        let b = is_earlier(h, i);
-        out[i] = b;
-    }
-    out
+    clipped_diff(h, i).unsigned_abs()
 }
 
-pub fn all_diffs(h: Pocs) -> [i8; 7]
-    requires { (h.nbits ≤ 8) × (h.n_refs ≤ 7) }
-    ensures { result ≡ diffs h }
+/// The signs of the slots in use; the others are off.
+pub fn all_signs(h: &Hints) -> [bool; 7]
+    ensures { result ≡ signs h.now.pocs }
 {
-    let n = h.n_refs;
-    let mut out = [0i8; 7];
-    for i in 0..n {
-        let d = clipped_diff(h, i);
-        out[i] = d;
-    }
-    out
+    array::from_fn(|i| i < h.pocs.n_refs && is_earlier(h, i))
 }
 
-pub fn abs_diff(h: Pocs, i: usize) -> u8
-    requires { (h.nbits ≤ 8) × (i < 7) }
-    ensures { result ≡ nat_abs (clipped h i) }
+/// The clipped differences of the slots in use; the others are 0.
+pub fn all_diffs(h: &Hints) -> [i8; 7]
+    ensures { result ≡ diffs h.now.pocs }
 {
-    intops::unsigned_abs(clipped_diff(h, i) as i32) as u8
+    array::from_fn(|i| {
+        if i < h.pocs.n_refs {
+            clipped_diff(h, i)
+        } else {
+            0
+        }
+    })
 }
 
-pub fn all_abs_diffs(h: Pocs) -> [u8; 7]
-    requires { (h.nbits ≤ 8) × (h.n_refs ≤ 7) }
-    ensures { result ≡ abs_diffs h }
+/// The magnitudes of the clipped differences of the slots in use; the others are 0.
+pub fn all_abs_diffs(h: &Hints) -> [u8; 7]
+    ensures { result ≡ abs_diffs h.now.pocs }
 {
-    let n = h.n_refs;
-    let mut out = [0u8; 7];
-    for i in 0..n {
-        let d = abs_diff(h, i);
-        out[i] = d;
-    }
-    out
+    array::from_fn(|i| if i < h.pocs.n_refs { abs_diff(h, i) } else { 0 })
 }
 
-// The slot in use that a slot's reference n is, NO_LINK for none.
-pub fn link_of(hints: [OrderHint; 7], s: Saved, refs: usize, n: usize) -> Slot
-    requires { (refs ≤ 7) × (n < 7) }
-    ensures { result ≡ link_in hints s refs n }
+/// The slot in use that reference n of slot i is: refref2curref_idx.
+#[tactic(auto, unfolding(crate::specs::Refs::link_of))]
+pub fn link_of(h: &Hints, i: usize, n: usize) -> Option<Slot>
+    requires slot { i < 7 }
+    requires reference { n < 7 }
+    ensures { result ≡ link_of h.now.pocs i n }
 {
+    let s = &h.pocs.saved[i];
     if s.refcnt == 0 {
-        return NO_LINK;
+        return None;
     }
-    let x = s.ref_poc[n];
-    let r = entry::find_hint(hints, x, refs);
-    if r < refs { Slot(r as u8) } else { NO_LINK }
+    let refs = h.pocs.n_refs;
+    match entry::find_hint(&h.pocs.ref_poc, s.ref_poc[n], refs) {
+        Some(k) => Some(Slot(k as u8)),
+        None => None,
+    }
 }
 
-// The links of the slots in use, seven to a slot.
-pub fn links_of(h: Pocs) -> [Slot; 49]
-    requires { h.n_refs ≤ 7 }
-    ensures { result ≡ links_of h }
+// The links of slot i, none where it is not in use.
+fn links_from(h: &Hints, i: usize) -> [Option<Slot>; 7]
+    requires { i < 7 }
+    ensures { result ≡ links_from h.now.pocs i }
 {
-    let refs = h.n_refs;
-    let hints = h.ref_poc;
-    let mut out = [NO_LINK; 49];
-    for k in 0..7 * refs {
-        let s = h.saved[k / 7];
-        let r = link_of(hints, s, refs, k % 7);
-        out[k] = r;
-    }
-    out
+    array::from_fn(|n| {
+        if i < h.pocs.n_refs {
+            link_of(h, i, n)
+        } else {
+            None
+        }
+    })
 }
 
-// Whether slot n is flipped for slot i, whose signs are x and y and whose hints are a and b.
-pub fn flip(nbits: u32, x: bool, y: bool, a: OrderHint, b: OrderHint) -> bool
-    requires { nbits ≤ 8 }
-    ensures { result ≡ flips_of x y (lt_z (hint_diff nbits a b) (pos 0)) }
+/// The links of the slots in use, seven to a slot; the others have none.
+pub fn links_of(h: &Hints) -> [[Option<Slot>; 7]; 7]
+    ensures { result ≡ links_of h.now.pocs }
 {
-    let before = env::poc_diff(nbits, a, b) < 0;
+    array::from_fn(
+        |i|
+            requires { i < 7 }
+            ensures { result ≡ links_from h.entry.now.pocs i }
+        { links_from(h, i) },
+    )
+}
+
+/// Whether slot n is flipped for slot i, whose signs are x and y and whose hints are a and b.
+pub fn flip(h: &Hints, x: bool, y: bool, a: OrderHint, b: OrderHint) -> bool
+    ensures { result ≡ flips_of x y (lt_z (hint_diff h.now.pocs.nbits a b) (pos 0)) }
+{
+    let before = h.diff(a, b) < 0;
     (x & y & before) | (!x & (y | before))
 }
 
-pub fn flip_row(h: Pocs, sign: [bool; 7], i: usize) -> u64
-    requires { (h.nbits ≤ 8) × (h.n_refs ≤ 7) × (i < 7) }
-    ensures { result ≡ flip_row h sign i }
+/// Row i of the flip mask: bit n for each slot n in use.
+#[tactic(auto, using(loops::proofs::Turns::span_turn, loops::proofs::Turns::span_end), unfolding(crate::specs::Refs::flip_row))]
+pub fn flip_row(h: &Hints, sign: &[bool; 7], i: usize) -> u64
+    requires { i < 7 }
+    ensures { result ≡ flip_row h.now.pocs sign.now i }
 {
-    let k = h.n_refs;
-    let x = sign[i];
-    let a = h.ref_poc[i];
     let mut r: u64 = 0;
-    for n in 0..k {
-        let y = sign[n];
-        let b = h.ref_poc[n];
-        let f = flip(h.nbits, x, y, a, b);
-        r += (f as u64) << n;
+    for n in 0..h.pocs.n_refs {
+        let f = flip(h, sign[i], sign[n], h.pocs.ref_poc[i], h.pocs.ref_poc[n]);
+        r += u64::from(f) << n;
     }
     r
 }
 
-pub fn flip_mask(h: Pocs, sign: [bool; 7]) -> u64
-    requires { (h.nbits ≤ 8) × (h.n_refs ≤ 7) }
-    ensures { result ≡ flip_mask h sign }
+/// The flip mask, ref_flip: bit 8 i + n for the slots i and n in use.
+#[tactic(auto, using(loops::proofs::Turns::span_turn, loops::proofs::Turns::span_end), unfolding(crate::specs::Refs::flip_mask))]
+pub fn flip_mask(h: &Hints, sign: &[bool; 7]) -> u64
+    ensures { result ≡ flip_mask h.now.pocs sign.now }
 {
-    let k = h.n_refs;
     let mut m: u64 = 0;
-    for i in 0..k {
-        let r = flip_row(h, sign, i);
-        m += r << (8 * i);
+    for i in 0..h.pocs.n_refs {
+        m += flip_row(h, sign, i) << (8 * i);
     }
     m
 }

@@ -1,33 +1,32 @@
 -- A slot stands after its references, unless a circle of references is in the way. Assumes nothing.
-use Rattle.std.proofs.Common.{◌≡◌, refl, sym, ap, ◌∙◌, List, Bool, true, false, cond, ◌⊎◌, inl, inr, ⊎_elim, ℕ, zero, suc, ◌+◌, ◌<◌, ◌≤◌, arith, ltb, eqb, ltb-true, ltb-false, eqb-true}
+use Rattle.std.proofs.Common.{◌≡◌, refl, sym, ap, ◌∙◌, Bool, true, false, cond, ◌⊎◌, inl, inr, ⊎_elim, ℕ, zero, suc, ◌+◌, ◌<◌, ◌≤◌, arith, ltb, eqb, ltb-true, ltb-false, eqb-true}
 use Rattle.loops.specs.Over.{span}
 use Rattle.loops.proofs.Keeps.{span_in, span_to}
-use Rattle.levels.specs.declared.Slot.{Slot}
 use Rattle.levels.specs.Slots.{slot_at, Stands}
 use Rattle.topo.specs.declared.Order.{Order}
-use Rattle.topo.specs.Topo.{reference, free, marked, placed, link, enter, no_order, ordered}
+use Rattle.topo.specs.Topo.{Links, reference, free, marked, placed, link, enter, no_order, ordered}
 use Rattle.topo.proofs.Laws.{marked_less, whole}
 use Rattle.topo.specs.Theorems.{RefersTo, Reaches, direct, through, AfterReferences}
 use Rattle.loops.proofs.Counting.{is_or}
 use Rattle.topo.proofs.Perm.{place_of, Good, Run, runs, run_refl, run_trans, run_good, mark_good, entered, last_at, before_last, none_good}
 
 -- each reference of a slot in the order stands before it, or refers back to it: a circle
-abbrev After : List Slot → Order → Type 0
+abbrev After : Links → Order → Type 0
 After g o = (k x : ℕ) → k < o.count → RefersTo g (slot_at o.list k) x → Stands o.list k x ⊎ Reaches g x (slot_at o.list k)
 
 -- what a step to a slot does: its order stands, and the slot is entered
-abbrev Steps : List Slot → ℕ → (ℕ → Order → Order) → Type 1
+abbrev Steps : Links → ℕ → (ℕ → Order → Order) → Type 1
 Steps g d go =
     (S : ℕ → Type 0) (k : ℕ) (s : Order) → k < 7 → Good S s → After g s → free s.place ≤ d → ((j : ℕ) → S j → Reaches g j k)
     → After g (go k s) × (place_of (go k s) k ≡ 7 → ⊥)
 
 -- while the references of slot i are entered
-record Turn (g : List Slot) (S : ℕ → Type 0) (i : ℕ) (m : Order) (p : ℕ) (s : Order) : Type 0 where
+record Turn (g : Links) (S : ℕ → Type 0) (i : ℕ) (m : Order) (p : ℕ) (s : Order) : Type 0 where
   run : Run S m s
   aft : After g s
   seen : (n : ℕ) → n < p → reference g i n < 7 → place_of s (reference g i n) ≡ 7 → ⊥
 
-module _ (g : List Slot) (d : ℕ) (S : ℕ → Type 0) (i : ℕ) (o : Order) (st : Steps g d (enter d g)) (h : i < 7) (gd : Good S o) (af : After g o)
+module _ (g : Links) (d : ℕ) (S : ℕ → Type 0) (i : ℕ) (o : Order) (st : Steps g d (enter d g)) (h : i < 7) (gd : Good S o) (af : After g o)
     (fr : free o.place ≤ suc d) (re : (j : ℕ) → S j → Reaches g j i) (z : place_of o i ≡ 7) where
   abbrev S' : ℕ → Type 0
   S' j = (j ≡ i) ⊎ S j
@@ -84,12 +83,12 @@ module _ (g : List Slot) (d : ℕ) (S : ℕ → Type 0) (i : ℕ) (o : Order) (s
       (λ y. inr (rw bl y))
       (t.aft k x b (rw bl at r)))
 
-step_go : (g : List Slot) (d : ℕ) (S : ℕ → Type 0) (i : ℕ) (o : Order) → Steps g d (enter d g) → i < 7 → Good S o → After g o → free o.place ≤ suc d → ((j : ℕ) → S j → Reaches g j i)
+step_go : (g : Links) (d : ℕ) (S : ℕ → Type 0) (i : ℕ) (o : Order) → Steps g d (enter d g) → i < 7 → Good S o → After g o → free o.place ≤ suc d → ((j : ℕ) → S j → Reaches g j i)
     → (t : Bool) → eqb (place_of o i) 7 ≡ t → After g (cond t (whole (enter d g) g i o) o)
 step_go g d S i o st h gd af fr re false e = af
 step_go g d S i o st h gd af fr re true e = placed_after g d S i o st h gd af fr re (eqb-true _ _ e)
 
-steps : (d : ℕ) (g : List Slot) → Steps g d (enter d g)
+steps : (d : ℕ) (g : Links) → Steps g d (enter d g)
 unfolding enter
 steps zero g S i o h gd af fr re = (af, λ (v : place_of o i ≡ 7). omega (arith, marked_less i o h gd.space.base v))
 steps (suc d) g S i o h gd af fr re =

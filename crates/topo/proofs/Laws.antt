@@ -1,12 +1,12 @@
 -- Entering a slot: what it keeps, and that a depth of the slots not yet entered is deep enough. Assumes nothing.
-use Rattle.std.proofs.Common.{◌≡◌, refl, sym, ap, ◌∙◌, Bool, true, false, cond, List, [], ◌∷◌, ℕ, zero, suc, ◌+◌, ◌-◌, ◌<◌, ◌≤◌, le_of_suc-le-suc, arith, ltb, eqb, length, get_or, set, length-set, ltb-true, eqb-true, ne_eqb, eq-eqb, lt-ltb, le-ltb}
+use Rattle.std.proofs.Common.{Option, Some, None, ◌≡◌, refl, sym, ap, ◌∙◌, Bool, true, false, cond, List, [], ◌∷◌, ℕ, zero, suc, ◌+◌, ◌-◌, ◌<◌, ◌≤◌, le_of_suc-le-suc, arith, ltb, eqb, length, get_or, set, length-set, ltb-true, eqb-true, ne_eqb, eq-eqb, lt-ltb, le-ltb}
 use mir.Val.{bool_byte}
 use Rattle.loops.specs.Over.{over, span}
 use Rattle.loops.proofs.Keeps.{span_in}
 use Rattle.levels.specs.declared.Slot.{Slot}
 use Rattle.levels.specs.Slots.{slot}
 use Rattle.topo.specs.declared.Order.{Order}
-use Rattle.topo.specs.Topo.{reference, free, marked, placed, link, enter, no_order}
+use Rattle.topo.specs.Topo.{Links, number_of, reference, free, marked, placed, link, enter, no_order}
 use Rattle.topo.specs.Theorems.{DeepEnough}
 
 -- entering a slot leaves one fewer
@@ -65,7 +65,7 @@ placed_grown i o s h m e g =
       sum = omega (arith, l, f, g.sum);
     }
 
-module _ (go : ℕ → Order → Order) (g : List Slot) (i n : ℕ) (m s : Order) where
+module _ (go : ℕ → Order → Order) (g : Links) (i n : ℕ) (m s : Order) where
   link_go : (t : Bool) → ltb (reference g i n) 7 ≡ t → Grown m s
       → (reference g i n < 7 → Grown s (go (reference g i n) s))
       → Grown m (cond t (go (reference g i n) s) s)
@@ -91,10 +91,10 @@ abbrev pub Grows : (ℕ → Order → Order) → Type 0
 Grows go = (k : ℕ) (s : Order) → k < 7 → Room s → Grown s (go k s)
 
 -- the references of a slot, and the slot
-abbrev pub whole : (ℕ → Order → Order) → List Slot → ℕ → Order → Order
+abbrev pub whole : (ℕ → Order → Order) → Links → ℕ → Order → Order
 whole go g i o = placed i (span (link go g i) 0 7 (marked i o))
 
-module _ (go : ℕ → Order → Order) (g : List Slot) (i : ℕ) (o : Order) (ih : Grows go) (h : i < 7) (m : Room o) where
+module _ (go : ℕ → Order → Order) (g : Links) (i : ℕ) (o : Order) (ih : Grows go) (h : i < 7) (m : Room o) where
   -- each step from the marked order on
   pub link_keeps : get_or o.place i 0 ≡ 7 → (p : ℕ) (s : Order) → Grown (marked i o) s → Grown (marked i o) (link go g i p s)
   link_keeps z p s k = link_grown go g i p (marked i o) s k (λ l. ih _ s l (grown_room k (marked_room i o h m z)))
@@ -106,7 +106,7 @@ module _ (go : ℕ → Order → Order) (g : List Slot) (i : ℕ) (o : Order) (i
       placed_grown i o _ h m z (span_in (Grown (marked i o)) (link go g i) 7 (λ p s l. link_keeps z p s) (marked i o) (grown_refl _))
 
 -- entering a slot enters some and keeps the room
-pub grown : (d : ℕ) (g : List Slot) → Grows (enter d g)
+pub grown : (d : ℕ) (g : Links) → Grows (enter d g)
 unfolding enter
 grown zero g i o h m = grown_refl o
 grown (suc d) g i o h m = grown_go (enter d g) g i o (grown d g) h m (eqb (get_or o.place i 0) 7) refl
@@ -115,18 +115,18 @@ grown (suc d) g i o h m = grown_go (enter d g) g i o (grown d g) h m (eqb (get_o
 none_left : (i : ℕ) (o : Order) → i < 7 → Room o → free o.place ≡ 0 → eqb (get_or o.place i 0) 7 ≡ false
 none_left i o h m e = ne_eqb _ _ (λ (z : get_or o.place i 0 ≡ 7). omega (arith, marked_less i o h m z))
 
-stops : (d : ℕ) (g : List Slot) (i : ℕ) (o : Order) → i < 7 → Room o → free o.place ≡ 0 → enter d g i o ≡ o
+stops : (d : ℕ) (g : Links) (i : ℕ) (o : Order) → i < 7 → Room o → free o.place ≡ 0 → enter d g i o ≡ o
 unfolding enter
 stops zero g i o h m e = refl
 stops (suc d) g i o h m e = rw (none_left i o h m e)
 
-link_same : (f k : ℕ → Order → Order) (g : List Slot) (i n : ℕ) (s : Order)
+link_same : (f k : ℕ → Order → Order) (g : Links) (i n : ℕ) (s : Order)
     → (reference g i n < 7 → f (reference g i n) s ≡ k (reference g i n) s) → (t : Bool) → ltb (reference g i n) 7 ≡ t
     → cond t (f (reference g i n) s) s ≡ cond t (k (reference g i n) s) s
 link_same f k g i n s e true h = e (ltb-true _ _ h)
 link_same f k g i n s e false h = refl
 
-same_go : (f k : ℕ → Order → Order) (g : List Slot) (i : ℕ) (o : Order) → Grows f → i < 7 → Room o
+same_go : (f k : ℕ → Order → Order) (g : Links) (i : ℕ) (o : Order) → Grows f → i < 7 → Room o
     → ((j : ℕ) (s : Order) → j < 7 → Room s → free s.place + 1 ≤ free o.place → f j s ≡ k j s)
     → (t : Bool) → eqb (get_or o.place i 0) 7 ≡ t → cond t (whole f g i o) o ≡ cond t (whole k g i o) o
 same_go f k g i o ih h m e false w = refl
@@ -138,7 +138,7 @@ same_go f k g i o ih h m e true w =
     0 7 (marked i o) (grown_refl _))
 
 -- a depth of as many as are left is deep enough: more makes no difference
-pub enough : (d e : ℕ) (g : List Slot) (i : ℕ) (o : Order) → i < 7 → Room o → free o.place ≤ d → free o.place ≤ e → enter d g i o ≡ enter e g i o
+pub enough : (d e : ℕ) (g : Links) (i : ℕ) (o : Order) → i < 7 → Room o → free o.place ≤ d → free o.place ≤ e → enter d g i o ≡ enter e g i o
 unfolding enter
 enough zero e g i o h m a b = sym (stops e g i o h m (omega arith))
 enough (suc d) zero g i o h m a b = stops (suc d) g i o h m (omega arith)
@@ -147,28 +147,33 @@ enough (suc d) (suc e) g i o h m a b =
     (λ j s l r q. enough d e g j s l r (omega arith) (omega arith))
     (eqb (get_or o.place i 0) 7) refl
 
-step : (d : ℕ) (g : List Slot) (i : ℕ) (o : Order) → enter (suc d) g i o ≡ cond (eqb (get_or o.place i 0) 7) (whole (enter d g) g i o) o
+step : (d : ℕ) (g : Links) (i : ℕ) (o : Order) → enter (suc d) g i o ≡ cond (eqb (get_or o.place i 0) 7) (whole (enter d g) g i o) o
 unfolding enter
 step d g i o = refl
 
 -- so `enter 7` is its own step
-pub unrolled : (g : List Slot) (i : ℕ) (o : Order) → i < 7 → Room o → enter 7 g i o ≡ cond (eqb (get_or o.place i 0) 7) (whole (enter 7 g) g i o) o
+pub unrolled : (g : Links) (i : ℕ) (o : Order) → i < 7 → Room o → enter 7 g i o ≡ cond (eqb (get_or o.place i 0) 7) (whole (enter 7 g) g i o) o
 unrolled g i o h m = enough 7 8 g i o h m (omega (arith, m.room)) (omega (arith, m.room)) ∙ step 7 g i o
 
 -- the two ways of the code
-pub seen : (g : List Slot) (i : ℕ) (o : Order) → i < 7 → Room o → (get_or o.place i 0 ≡ 7 → ⊥) → o ≡ enter 7 g i o
+pub seen : (g : Links) (i : ℕ) (o : Order) → i < 7 → Room o → (get_or o.place i 0 ≡ 7 → ⊥) → o ≡ enter 7 g i o
 seen g i o h m n = sym (unrolled g i o h m ∙ simp (ne_eqb _ _ n))
 
 -- the slot i goes to the end, at the place j that is its index
-pub entered : (g : List Slot) (i j : ℕ) (o s : Order) → j ≡ i → j < 7 → Room o → get_or o.place j 0 ≡ 7
+pub entered : (g : Links) (i j : ℕ) (o s : Order) → j ≡ i → j < 7 → Room o → get_or o.place j 0 ≡ 7
     → s ≡ span (link (enter 7 g) g j) 0 7 (marked j o)
     → record { list = set s.list s.count (slot i); place = set s.place j s.count; count = s.count + 1 } ≡ enter 7 g i o
 entered g i j o s q h m z e =
     let w : placed j s ≡ enter 7 g j o = sym (unrolled g j o h m ∙ simp (eq-eqb _ _ z) (ap (placed j) (sym e))) in
     rw (← q) w
 
+-- a link that is no slot
+pub none_number : (o : Option Slot) → ((s : Slot) → o ≡ Some s → ⊥) → 7 ≤ number_of o
+none_number None h = omega arith
+none_number (Some s) h = absurd (h s refl)
+
 -- a turn of the loop: with a reference to enter, with one that is entered, with none
-module _ (g : List Slot) (i n : ℕ) (m s s' : Order) (k : Grown m s) (r : Room m) where
+module _ (g : Links) (i n : ℕ) (m s s' : Order) (k : Grown m s) (r : Room m) where
   pub turn_yes : reference g i n < 7 → s' ≡ enter 7 g (reference g i n) s → Grown m s' × (s' ≡ link (enter 7 g) g i n s)
   turn_yes h e = (rw e (grown_trans k (grown 7 g _ s h (grown_room k r))), simp (lt-ltb _ _ h) e)
 

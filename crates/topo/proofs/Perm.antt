@@ -1,14 +1,13 @@
 -- Every slot in use is entered exactly once. Assumes nothing.
-use Rattle.std.proofs.Common.{◌≡◌, refl, sym, ap, ◌∙◌, Bool, true, false, cond, List, ◌⊎◌, inl, inr, ⊎_elim, ℕ, zero, suc, ◌<◌, ◌≤◌, arith, ltb, eqb, length, get_or, length-set, get_or-set_same, get_or-set_other, ltb-true, eqb-true}
+use Rattle.std.proofs.Common.{◌≡◌, refl, sym, ap, ◌∙◌, Bool, true, false, cond, ◌⊎◌, inl, inr, ⊎_elim, ℕ, zero, suc, ◌<◌, ◌≤◌, arith, ltb, eqb, length, get_or, length-set, get_or-set_same, get_or-set_other, ltb-true, eqb-true}
 use Rattle.std.proofs.Math.Logic.{dite}
 use Rattle.std.proofs.Math.Decide.{dec_le}
 use Rattle.std.proofs.Math.ListN.{get_or-replicate}
 use borrow.Author.Tests.{eqb-false}
 use Rattle.loops.specs.Over.{over, span}
-use Rattle.levels.specs.declared.Slot.{Slot}
 use Rattle.levels.specs.Slots.{slot, slot_at, Stands}
 use Rattle.topo.specs.declared.Order.{Order}
-use Rattle.topo.specs.Topo.{reference, marked, placed, link, enter, no_order, ordered}
+use Rattle.topo.specs.Topo.{Links, reference, marked, placed, link, enter, no_order, ordered}
 use Rattle.topo.specs.Theorems.{Among, IsPermutation}
 use Rattle.loops.proofs.Counting.{is_or, no_more}
 use Rattle.loops.proofs.Keeps.{span_in, span_to}
@@ -174,7 +173,7 @@ link_go : (go : ℕ → Order → Order) (S : ℕ → Type 0) (x : ℕ) (m s : O
 link_go go S x m s true e ih sp r = run_trans r (ih S x s (ltb-true _ _ e) (run_good r sp))
 link_go go S x m s false e ih sp r = r
 
-module _ (go : ℕ → Order → Order) (g : List Slot) (S : ℕ → Type 0) (i : ℕ) (o : Order) (ih : Runs go) (h : i < 7) (gd : Good S o) where
+module _ (go : ℕ → Order → Order) (g : Links) (S : ℕ → Type 0) (i : ℕ) (o : Order) (ih : Runs go) (h : i < 7) (gd : Good S o) where
   pub mark_good : place_of o i ≡ 7 → Good (λ (j : ℕ). (j ≡ i) ⊎ S j) (marked i o)
   mark_good z =
       record {
@@ -200,20 +199,20 @@ module _ (go : ℕ → Order → Order) (g : List Slot) (S : ℕ → Type 0) (i 
         every = put_whole i o s h gd.space z r.grows r.adds S r.every;
       }
 
-pub runs : (d : ℕ) (g : List Slot) → Runs (enter d g)
+pub runs : (d : ℕ) (g : Links) → Runs (enter d g)
 unfolding enter
 runs zero g S i o h gd = run_refl gd
 runs (suc d) g S i o h gd = run_go (enter d g) g S i o (runs d g) h gd (eqb (place_of o i) 7) refl (grown (suc d) g i o h gd.space.base)
 
 -- a slot that `enter` was given is entered
-entered_go : (go : ℕ → Order → Order) (g : List Slot) (S : ℕ → Type 0) (i : ℕ) (o : Order) → Runs go → i < 7 → Good S o → (t : Bool) → eqb (place_of o i) 7 ≡ t
+entered_go : (go : ℕ → Order → Order) (g : Links) (S : ℕ → Type 0) (i : ℕ) (o : Order) → Runs go → i < 7 → Good S o → (t : Bool) → eqb (place_of o i) 7 ≡ t
     → place_of (cond t (whole go g i o) o) i ≡ 7 → ⊥
 entered_go go g S i o ih h gd false e w = eqb-false _ _ e w
 entered_go go g S i o ih h gd true e w =
     let z = eqb-true _ _ e in let r = inner go g S i o ih h gd z in
     omega (arith, w, put_same i o (span (link go g i) 0 7 (marked i o)) h gd.space z r.grows r.adds, small i o (span (link go g i) 0 7 (marked i o)) h gd.space z r.grows r.adds)
 
-pub entered : (d : ℕ) (g : List Slot) (S : ℕ → Type 0) (i : ℕ) (o : Order) → i < 7 → Good S o → place_of (enter (suc d) g i o) i ≡ 7 → ⊥
+pub entered : (d : ℕ) (g : Links) (S : ℕ → Type 0) (i : ℕ) (o : Order) → i < 7 → Good S o → place_of (enter (suc d) g i o) i ≡ 7 → ⊥
 unfolding enter
 entered d g S i o h gd = entered_go (enter d g) g S i o (runs d g) h gd (eqb (place_of o i) 7) refl
 
@@ -231,7 +230,7 @@ none_good =
     }
 
 -- after n turns the first n slots are entered
-in_order : (g : List Slot) (n : ℕ) → n ≤ 7 → Good (λ (j : ℕ). ⊥) (ordered g n) × ((j : ℕ) → j < n → place_of (ordered g n) j ≡ 7 → ⊥)
+in_order : (g : Links) (n : ℕ) → n ≤ 7 → Good (λ (j : ℕ). ⊥) (ordered g n) × ((j : ℕ) → j < n → place_of (ordered g n) j ≡ 7 → ⊥)
 unfolding ordered
 in_order g n h =
     span_to (λ (p : ℕ) (o : Order). Good (λ (j : ℕ). ⊥) o × ((j : ℕ) → j < p → place_of o j ≡ 7 → ⊥)) (enter 7 g) n
@@ -244,26 +243,26 @@ in_order g n h =
     ))
     no_order (none_good, λ j l. absurd (omega arith))
 
-pub ordered_good : (g : List Slot) (n : ℕ) → n ≤ 7 → Good (λ (j : ℕ). ⊥) (ordered g n)
+pub ordered_good : (g : Links) (n : ℕ) → n ≤ 7 → Good (λ (j : ℕ). ⊥) (ordered g n)
 ordered_good g n h = (in_order g n h).0
 
-pub each_stands : (g : List Slot) (n i : ℕ) → n ≤ 7 → i < n → Stands (ordered g n).list (ordered g n).count i
+pub each_stands : (g : Links) (n i : ℕ) → n ≤ 7 → i < n → Stands (ordered g n).list (ordered g n).count i
 each_stands g n i h l =
     let x = in_order g n h in
     ⊎_elim (λ st. st) (λ b. absurd b) (x.0.every i (omega arith) (x.1 i l))
 
-pub stands_once : (g : List Slot) (n j k : ℕ) → n ≤ 7 → j < (ordered g n).count → k < (ordered g n).count → slot_at (ordered g n).list j ≡ slot_at (ordered g n).list k → j ≡ k
+pub stands_once : (g : Links) (n j k : ℕ) → n ≤ 7 → j < (ordered g n).count → k < (ordered g n).count → slot_at (ordered g n).list j ≡ slot_at (ordered g n).list k → j ≡ k
 stands_once g n j k h a b e =
     let on = (ordered_good g n h).once in
     sym (on j a).1 ∙ ap (place_of (ordered g n)) e ∙ (on k b).1
 
 -- ---- a permutation
 
-none_listed : (g : List Slot) → (ordered g 0).count ≡ 0
+none_listed : (g : Links) → (ordered g 0).count ≡ 0
 unfolding ordered span over
 none_listed g = refl
 
-module _ (g : List Slot) (n : ℕ) (h : n ≤ 7) where
+module _ (g : Links) (n : ℕ) (h : n ≤ 7) where
   abbrev o : Order
   o = ordered g n
 

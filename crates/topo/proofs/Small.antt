@@ -1,12 +1,12 @@
 -- The order's places and slots are in range. Assumes nothing.
-use Rattle.std.proofs.Common.{◌≡◌, refl, Bool, true, false, cond, List, ℕ, zero, suc, ◌<◌, ◌≤◌, arith, ltb, eqb, get_or, ltb-true}
+use Rattle.std.proofs.Common.{◌≡◌, refl, Bool, true, false, cond, ℕ, zero, suc, ◌<◌, ◌≤◌, arith, ltb, eqb, get_or, ltb-true}
 use Rattle.loops.specs.Over.{span}
 use Rattle.loops.proofs.Keeps.{set_has, span_in}
 use Rattle.loops.proofs.Slots.{zeros}
 use Rattle.levels.specs.declared.Slot.{Slot}
 use Rattle.levels.specs.Slots.{slot, slot_at}
 use Rattle.topo.specs.declared.Order.{Order}
-use Rattle.topo.specs.Topo.{reference, marked, link, enter, no_order, ordered}
+use Rattle.topo.specs.Topo.{Links, reference, marked, link, enter, no_order, ordered}
 use Rattle.topo.proofs.Laws.{Room, grown, grown_room, none_room, whole}
 
 -- every slot of the list is below b
@@ -14,10 +14,10 @@ abbrev pub Below : ℕ → Order → Type 0
 Below b o = (k : ℕ) → slot_at o.list k < b
 
 -- the references of the slots below b are below b, or none
-abbrev pub Closed : ℕ → List Slot → Type 0
+abbrev pub Closed : ℕ → Links → Type 0
 Closed b g = (i m : ℕ) → i < b → m < 7 → reference g i m < 7 → reference g i m < b
 
-module _ (b : ℕ) (g : List Slot) (cl : Closed b g) where
+module _ (b : ℕ) (g : Links) (cl : Closed b g) where
   abbrev Keeps : (ℕ → Order → Order) → Type 0
   Keeps go = (k : ℕ) (s : Order) → k < b → Below b s → Below b (go k s)
 
@@ -43,10 +43,10 @@ module _ (b : ℕ) (g : List Slot) (cl : Closed b g) where
   ordered_below n h z = span_in (Below b) (enter 7 g) n (λ p s l k. enter_below 7 p s (omega arith) k) no_order (λ k. zeros b 7 k z)
 
 -- every slot of the list is a slot
-pub ordered_small : (g : List Slot) (n : ℕ) → n ≤ 7 → (k : ℕ) → slot_at (ordered g n).list k < 7
+pub ordered_small : (g : Links) (n : ℕ) → n ≤ 7 → (k : ℕ) → slot_at (ordered g n).list k < 7
 ordered_small g n h = ordered_below 7 g (λ i m l lm s. s) n h (omega arith)
 
 -- and there is room for those that are not entered
-pub ordered_room : (g : List Slot) (n : ℕ) → n ≤ 7 → Room (ordered g n)
+pub ordered_room : (g : Links) (n : ℕ) → n ≤ 7 → Room (ordered g n)
 unfolding ordered
 ordered_room g n h = span_in Room (enter 7 g) n (λ p s l k. grown_room (grown 7 g p s (omega arith) k) k) no_order none_room

@@ -1,13 +1,12 @@
 -- What is proved of the dependency order besides its definition (proofs/Laws.antt, Perm.antt, After.antt). Assumes nothing.
-use Rattle.std.specs.Prelude.{ℕ, ◌+◌, ◌<◌, ◌≤◌, ◌≡◌, cond, List, ◌⊎◌, eqb, length, get_or}
+use Rattle.std.specs.Prelude.{ℕ, ◌+◌, ◌<◌, ◌≤◌, ◌≡◌, cond, ◌⊎◌, eqb, length, get_or}
 use Rattle.loops.specs.Over.{span}
-use Rattle.levels.specs.declared.Slot.{Slot}
 use Rattle.levels.specs.Slots.{slot_at, Stands, Permutes}
 use Rattle.topo.specs.declared.Order.{Order}
-use Rattle.topo.specs.Topo.{reference, free, marked, placed, link, enter, ordered}
+use Rattle.topo.specs.Topo.{Links, reference, free, marked, placed, link, enter, ordered}
 
 -- the references of the first n slots are among these: each is one of them, or none
-abbrev pub Among : ℕ → List Slot → Type 0
+abbrev pub Among : ℕ → Links → Type 0
 Among n links = (i m : ℕ) → i < n → m < 7 → (reference links i m < n) ⊎ (7 ≤ reference links i m)
 
 -- an order of the first n slots: it counts n, and its list is a permutation of them
@@ -16,24 +15,24 @@ Orders o n = (o.count ≡ n) × Permutes o.list n
 
 -- the dependency order of the slots in use is a permutation of them
 abbrev pub IsPermutation : Type 0
-IsPermutation = (links : List Slot) (n : ℕ) → n ≤ 7 → Among n links → Orders (ordered links n) n
+IsPermutation = (links : Links) (n : ℕ) → n ≤ 7 → Among n links → Orders (ordered links n) n
 
 -- slot y is a reference of slot x
-pub record RefersTo (links : List Slot) (x y : ℕ) : Type 0 where
+pub record RefersTo (links : Links) (x y : ℕ) : Type 0 where
   pub which : ℕ
   pub below : which < 7
   pub is : reference links x which ≡ y
   pub some : y < 7
 
 -- slot x refers to slot y, directly or through others
-pub data Reaches (links : List Slot) : ℕ → ℕ → Type 0 where
+pub data Reaches (links : Links) : ℕ → ℕ → Type 0 where
   direct : {x y : ℕ} → RefersTo links x y → Reaches links x y
   through : {x y z : ℕ} → Reaches links x y → RefersTo links y z → Reaches links x z
 
 -- each reference of the slot at place k stands before place k, unless it refers back to that slot, directly or through others
 abbrev pub AfterReferences : Type 0
 AfterReferences =
-    (links : List Slot) (n k y : ℕ)
+    (links : Links) (n k y : ℕ)
     → n ≤ 7
     → k < (ordered links n).count
     → RefersTo links (slot_at (ordered links n).list k) y
@@ -42,7 +41,7 @@ AfterReferences =
 -- the depth of 7 is no limit: at each order that has room for the slots that are not yet entered, `enter 7` enters references by `enter 7`
 abbrev pub DeepEnough : Type 0
 DeepEnough =
-    (links : List Slot) (i : ℕ) (o : Order)
+    (links : Links) (i : ℕ) (o : Order)
     → i < 7
     → length o.place ≡ 7
     → o.count + free o.place ≤ 7

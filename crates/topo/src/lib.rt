@@ -4,39 +4,40 @@
 ghost use Rattle.std.specs.Prelude.{◌≡◌, ◌+◌, ◌≤◌, ◌<◌};
 ghost use Rattle.topo.specs.Topo.{free, enter, ordered};
 
-use levels::{Slot, slot_index};
+use levels::Slot;
 
-// The slots in the order in which they were entered, where each stands (7: not entered), and how many there are.
+/// The slots in the order in which they were entered, where each stands, and how many there are.
 #[derive(Clone, Copy)]
 pub struct Order {
     pub list: [Slot; 7],
+    // 7: not entered. No Option: the TIP source compares places as numbers, and 7 stands past all of them.
     pub place: [u8; 7],
+    // Beside the list, and no vector of the slots: what is not yet entered is zero, as in refmvs.rs, and the state is copied.
     pub count: usize,
 }
 
-// Enters a slot, its references first. `links` has the references of each slot, seven to a slot, NO_LINK for none.
-pub fn topo_insert(o: Order, links: [Slot; 49], slot: Slot) -> Order
-    requires { (slot.0 < 7) × (o.count + free o.place ≤ 7) }
-    ensures { result ≡ enter 7 links slot.0 o }
+/// Enters a slot, its references first, where it is not yet entered: topo_insert of refmvs.rs. `links` has the references of each slot, seven to a slot; one past slot 6 counts as none.
+pub fn topo_insert(o: Order, links: &[[Option<Slot>; 7]; 7], slot: Slot) -> Order
+    requires slot { slot.0 < 7 }
+    requires room { o.count + free o.place ≤ 7 }
+    ensures { result ≡ enter 7 links.now slot.0 o }
 {
-    let at = slot_index(slot);
+    let at = slot.index();
     let mut st = o;
     let p = st.place[at];
     if p != 7 {
         return st;
     }
     st.place[at] = 0;
-    let mut n: usize = 0;
-    while n < 7 {
-        let r = links[at * 7 + n];
-        if r.0 < 7 {
-            let k = slot_index(r);
-            let q = st.place[k];
-            if q == 7 {
-                st = topo_insert(st, links, r);
+    for n in 0..7 {
+        if let Some(r) = links[at][n] {
+            if r.0 < 7 {
+                let q = st.place[r.index()];
+                if q == 7 {
+                    st = topo_insert(st, links, r);
+                }
             }
         }
-        n += 1;
     }
     let k = st.count;
     st.list[k] = slot;
@@ -45,16 +46,14 @@ pub fn topo_insert(o: Order, links: [Slot; 49], slot: Slot) -> Order
     st
 }
 
-// The order of the first n slots.
-pub fn topo_order(links: [Slot; 49], n: usize) -> Order
+/// The dependency order of the first n slots, the slots in use.
+pub fn topo_order(links: &[[Option<Slot>; 7]; 7], n: usize) -> Order
     requires { n ≤ 7 }
-    ensures { result ≡ ordered links n }
+    ensures { result ≡ ordered links.now n }
 {
-    let list = [Slot(0); 7];
-    let place = [7u8; 7];
     let mut o = Order {
-        list,
-        place,
+        list: [Slot(0); 7],
+        place: [7u8; 7],
         count: 0,
     };
     for i in 0..n {

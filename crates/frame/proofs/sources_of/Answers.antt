@@ -1,45 +1,30 @@
 -- `frame::sources_of` meets its contract. Assumes nothing.
-use Rattle.std.proofs.Common.{rules, lt-ltb, le-ltb, eq-eqb, ne_eqb, ◌≡◌, w8, SFits}
-use borrow.Author.Tests.{not-true, not-false}
+use Rattle.std.proofs.Common.{rules, lt-ltb, le-ltb, eq-eqb, ne_eqb, w8, SFits}
 use Rattle.intops.proofs.Signed.{back}
-use Rattle.frame.specs.Frame.{Fine, slot_of, sources_of}
-use Rattle.frame.proofs.Laws.{picked_fine, slot_small}
-use Rattle.frame.proofs.sources_of.Goals.{After-slot_of-a, After-slot_of-b}
+use Rattle.frame.specs.Frame.{sources_of}
+use Rattle.frame.proofs.Laws.{picked_fine}
+use Rattle.frame.proofs.sources_of.Goals.{then-not-f-via-then-not-f, then-not-f-via-else-not-f+then-h-eq0, then-not-f-via-else-not-f+else-h-eq0+then-h-lt2}
 use Rattle.frame.proofs.sources_of.Goals as goal
-
-a_is : (c : After-slot_of-a) → c.slot_of-a.result ≡ slot_of c.args.f.tip0
-a_is c = let f : SFits w8 c.args.f.tip0 = search rules in simp back at c.slot_of-a.ensures
-
-b_is : (c : After-slot_of-b) → c.slot_of-b.result ≡ slot_of c.args.f.tip1
-b_is c = let f : SFits w8 c.args.f.tip1 = search rules in simp back at c.slot_of-b.ensures
 
 pub returns-then-not-f : goal.returns-then-not-f
 unfolding sources_of
-returns-then-not-f c = rw (not-true c.args.f.use_ref_frame_mvs c.if-not-f.true) c.no_sources.ensures
-
-pub returns-then-h-eq0 : goal.returns-then-h-eq0
-unfolding sources_of
-returns-then-h-eq0 c =
-    rw (not-false c.args.f.use_ref_frame_mvs c.if-not-f.false, eq-eqb _ _ c.if-h-eq0.true) c.no_sources-then-h-eq0.ensures
-
-pub returns-then-h-lt2 : goal.returns-then-h-lt2
-unfolding sources_of
-returns-then-h-lt2 c =
-    rw (not-false c.args.f.use_ref_frame_mvs c.if-not-f.false, ne_eqb _ _ c.if-h-eq0.false, lt-ltb _ _ c.if-h-lt2.true) c.no_sources-then-h-lt2.ensures
-
-pub pick_sources-p-requires : goal.pick_sources-p-requires
-pick_sources-p-requires c =
-    (c.requires.0, c.requires.1, rw (a_is (goal.at.pick_sources-p-requires c).After-slot_of-a) (slot_small c.args.f.tip0), rw (b_is (goal.at.pick_sources-p-requires c).After-slot_of-b) (slot_small c.args.f.tip1), c.requires.2, c.requires.3)
+returns-then-not-f c =
+    rw c.no_sources.ensures (rw (← c.requires.hints)
+    (elim c.then-not-f.branch [
+      | then-not-f-via-then-not-f w ↦ rw (w.if-not-f.true)
+      | then-not-f-via-else-not-f+then-h-eq0 w ↦ rw (w.if-not-f.false, eq-eqb _ _ w.if-h-eq0.true)
+      | then-not-f-via-else-not-f+else-h-eq0+then-h-lt2 w ↦ rw (w.if-not-f.false, ne_eqb _ _ w.if-h-eq0.false, lt-ltb _ _ w.if-h-lt2.true)
+    ]))
 
 pub fill_sources-requires : goal.fill_sources-requires
 fill_sources-requires c =
-    let f = c.args.f in
-    let e : Fine c.pick_sources-p.result =
-    rw (c.pick_sources-p.ensures, a_is (goal.at.fill_sources-requires c).After-slot_of-a, b_is (goal.at.fill_sources-requires c).After-slot_of-b) (picked_fine f.pocs f.rp_ref f.tip (slot_of f.tip0) (slot_of f.tip1) c.requires.1 (slot_small f.tip0) (slot_small f.tip1)) in
-    (c.requires.0, e, c.requires.4)
+    let f = c.args.f.now in let h = c.args.h.now in
+    rw (c.pick_sources-p.ensures) (picked_fine h.pocs f.rp_ref f.tip _ _ h.few_slots c.tip_slot.ensures.low c.tip_slot-2.ensures.low)
 
 pub returns : goal.returns
 unfolding sources_of
 returns c =
-    rw (not-false c.args.f.use_ref_frame_mvs c.if-not-f.false, ne_eqb _ _ c.if-h-eq0.false, le-ltb _ _ c.if-h-lt2.false, ← a_is (goal.at.returns c).After-slot_of-a, ← b_is (goal.at.returns c).After-slot_of-b, ← c.pick_sources-p.ensures)
+    let f : SFits w8 c.args.f.now.tip0 = search rules in let g : SFits w8 c.args.f.now.tip1 = search rules in
+    let x = simp back at c.tip_slot.ensures.value in let y = simp back at c.tip_slot-2.ensures.value in
+    rw (← c.requires.hints, c.if-not-f.false, ne_eqb _ _ c.if-h-eq0.false, le-ltb _ _ c.if-h-lt2.false, ← x, ← y, ← c.pick_sources-p.ensures)
     c.fill_sources.ensures

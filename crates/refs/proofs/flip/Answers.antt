@@ -15,5 +15,5 @@ four false false t = refl
 
 pub returns : goal.returns
 returns c =
-    let a = c.args in let f : SFits w32 c.poc_diff-before.result = search rules in
-    simp back (four a.x a.y (lt_z c.poc_diff-before.result (pos 0)) ∙ ap (λ (z : ℤ). flips_of a.x a.y (lt_z z (pos 0))) c.poc_diff-before.ensures)
+    let a = c.args in let f : SFits w32 c.diff-before.result = search rules in
+    simp back (four a.x a.y (lt_z c.diff-before.result (pos 0)) ∙ ap (λ (z : ℤ). flips_of a.x a.y (lt_z z (pos 0))) c.diff-before.ensures)

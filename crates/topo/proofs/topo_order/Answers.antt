@@ -14,9 +14,9 @@ loop-i-preserved c =
     let l = c.loop-i in let a = c.args in let k = c.topo_insert-o in
     let h = c.loop-i-test.true in (
       omega arith,
-      rw k.ensures (grown_room (grown 7 a.links l.i l.o (omega arith) l.invariant.1) l.invariant.1),
-      turned (enter 7 a.links) a.n l.i l.o _ _ h k.ensures l.invariant.2,
+      rw k.ensures (grown_room (grown 7 a.links.now l.i l.o (omega arith) l.invariant.1) l.invariant.1),
+      turned (enter 7 a.links.now) a.n l.i l.o _ _ h k.ensures l.invariant.2,
     )
 
 pub returns : goal.returns
-returns c = ended (enter 7 c.args.links) _ _ _ _ c.loop-i-test.false c.loop-i.invariant.2
+returns c = ended (enter 7 c.args.links.now) _ _ _ _ c.loop-i-test.false c.loop-i.invariant.2

@@ -1,9 +1,0 @@
--- `picks::pick_neighbours` meets its contract. Assumes nothing.
-use Rattle.std.proofs.Common.{◌≡◌, ◌≤◌}
-use Rattle.loops.specs.Over.{span}
-use Rattle.picks.specs.Picks.{round, neighbours}
-use Rattle.picks.proofs.pick_neighbours.Given as goal
-
-abbrev pub invariant-loop-n : goal.invariant-loop-n
-invariant-loop-n l =
-    (l.n ≤ 2) × (span (round l.h l.order l.first) l.n 2 l.q ≡ neighbours l.h l.order l.first l.initial.q)

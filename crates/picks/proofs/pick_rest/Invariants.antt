@@ -1,9 +1,0 @@
--- `picks::pick_rest` meets its contract. Assumes nothing.
-use Rattle.std.proofs.Common.{◌≡◌, ◌≤◌}
-use Rattle.loops.specs.Over.{span}
-use Rattle.picks.specs.Picks.{from_end, rest}
-use Rattle.picks.proofs.pick_rest.Given as goal
-
-abbrev pub invariant-loop-n : goal.invariant-loop-n
-invariant-loop-n l =
-    (l.n ≤ l.count) × (span (from_end l.diffs l.list l.count) l.n l.count l.q ≡ rest l.diffs l.list l.count l.initial.q)
