@@ -4,3 +4,8 @@ pub mod Owned
 pub mod Order
 pub mod Lent
 pub mod Switch
+pub mod Turns
+pub mod Held
+pub mod Borrows
+pub mod Rows
+pub mod Walks

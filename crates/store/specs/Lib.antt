@@ -1,3 +1,4 @@
 pub mod Store
 pub mod Program
 pub mod Calls
+pub mod Lent

@@ -3,3 +3,4 @@ pub mod Owner
 pub mod Passes
 pub mod Samples
 pub mod Moves
+pub mod Lent

@@ -2,13 +2,13 @@
 use Rattle.std.proofs.Common.{◌≡◌, ◌&&◌, true, ℕ, ◌+◌, ◌-◌, ◌*◌, ◌/◌, ◌%◌, ◌≤◌, ◌<◌, arith, leb-true, le-leb, lt-ltb, leb, ltb}
 use Rattle.intops.proofs.Tests.{and_both, both_and}
 use Rattle.store.specs.Store.{field_mvs, field_refs, trajs, maps}
-use Rattle.tile.specs.declared.Tile.{Tile}
+use Rattle.tile.specs.Geometry.{Geometry}
 use Rattle.tile.specs.Layout.{row_cells, field_at, traj_at, map_at}
 use Rattle.tile.specs.Owner.{own_block, owns}
 use Rattle.tile.specs.Sound.{Sound}
 use Rattle.tile.proofs.Places.{sides, field_col, field_low, traj_col, traj_low, map_col, map_low, map_plane}
 
-module _ (t : Tile) where
+module _ (t : Geometry) where
   pub mine_of : (n : ℕ) → t.left / t.block + 1 ≤ n → n ≤ (t.right - 1) / t.block + 1 → own_block t n ≡ true
   unfolding own_block
   mine_of n p q = both_and (leb (t.left / t.block + 1) n) (leb n ((t.right - 1) / t.block + 1)) (le-leb _ _ p) (le-leb _ _ q)
@@ -19,7 +19,7 @@ module _ (t : Tile) where
       let b = and_both (leb (t.left / t.block + 1) n) (leb n ((t.right - 1) / t.block + 1)) h in
       (leb-true _ _ b.0, leb-true _ _ b.1)
 
-module _ (t : Tile) (k : Sound t) where
+module _ (t : Geometry) (k : Sound t) where
   -- the tile's own columns
   pub mine_in : (x : ℕ) → t.left ≤ x → x < t.right → own_block t (x / t.block + 1) ≡ true
   mine_in x p q =

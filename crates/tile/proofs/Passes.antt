@@ -3,7 +3,7 @@ use Rattle.std.proofs.Common.{◌≡◌, subst, true, ℕ, ◌+◌, ◌-◌, ◌
 use Rattle.loops.proofs.Same.{turn_below}
 use Rattle.store.specs.Program.{Prog}
 use Rattle.store.proofs.Owned.{Owned}
-use Rattle.tile.specs.declared.Tile.{Tile}
+use Rattle.tile.specs.Geometry.{Geometry}
 use Rattle.tile.specs.Owner.{own_block, owns}
 use Rattle.tile.specs.Passes.{each_cell, each_sample, has_left, has_right}
 use Rattle.tile.specs.Sound.{Sound}
@@ -11,13 +11,13 @@ use Rattle.tile.proofs.Places.{sides, step_some}
 use Rattle.tile.proofs.Owner.{mine_in}
 
 -- a sampled column x of the block that begins at sx
-pub record Sampled (t : Tile) (sx x : ℕ) : Type 0 where
+pub record Sampled (t : Geometry) (sx x : ℕ) : Type 0 where
   pub left : t.left ≤ sx
   pub from : sx ≤ x
   pub to : x < min t.right (sx + t.block)
   pub on : x % t.step ≡ 0
 
-module _ (t : Tile) (k : Sound t) where
+module _ (t : Geometry) (k : Sound t) where
   pub mine_sampled : (sx x : ℕ) → Sampled t sx x → own_block t (x / t.block + 1) ≡ true
   mine_sampled sx x h = mine_in t k x (omega (arith, h.left, h.from)) (omega (arith, h.to))
 

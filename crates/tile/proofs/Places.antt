@@ -1,15 +1,37 @@
 -- Where a cell stands, taken apart again: its column, its plane; blocks and sampled columns. Assumes nothing.
-use Rattle.std.proofs.Common.{◌≡◌, sym, ap, ◌∙◌, ◌⊎◌, inl, inr, true, ℕ, ◌+◌, ◌-◌, ◌*◌, ◌/◌, ◌%◌, ◌≤◌, ◌<◌, min, add-mul, mul_assoc, mul-le-mul, mod-lt, mod-eq_of_lt, div-add-mod', arith, leb-true, ltb-true, leb, ltb}
+use Rattle.std.proofs.Common.{◌≡◌, sym, ap, ◌∙◌, ◌⊎◌, inl, inr, refl, Bool, true, false, ◌||◌, eqb, eqb-true, ℕ, ◌+◌, ◌-◌, ◌*◌, ◌/◌, ◌%◌, ◌≤◌, ◌<◌, min, add-mul, mul_assoc, mul-le-mul, mod-lt, mod-eq_of_lt, div-add-mod', arith, leb-true, ltb-true, leb, ltb}
 use Rattle.std.proofs.Math.Arith.{digits_lt, digits_div, digits_mod}
 use Rattle.intops.proofs.Tests.{and_both}
-use Rattle.tile.specs.declared.Tile.{Tile}
+use Rattle.tile.specs.Geometry.{Geometry}
 use Rattle.tile.specs.Layout.{row_cells, place, field_at, traj_at, map_at, on_step, block_start, near_col, same_rows}
 use Rattle.tile.specs.Sound.{Sound}
 
-module _ (t : Tile) (k : Sound t) where
+-- two tests joined, as the two equations
+either : (n a b : ℕ) → (eqb n a || eqb n b) ≡ true → (n ≡ a) ⊎ (n ≡ b)
+either n a b h = go (eqb n a) refl
+  where
+    go : (c : Bool) → eqb n a ≡ c → (n ≡ a) ⊎ (n ≡ b)
+    go true e = inl (eqb-true n a e)
+    go false e = inr (eqb-true n b (rw e at h))
+
+module _ (t : Geometry) (k : Sound t) where
+  -- the sides and the steps that there are
+  pub side_kind : (t.side ≡ 8) ⊎ ((t.side ≡ 16) ⊎ (t.side ≡ 32))
+  side_kind = go (eqb t.side 8) refl
+    where
+      go : (c : Bool) → eqb t.side 8 ≡ c → (t.side ≡ 8) ⊎ ((t.side ≡ 16) ⊎ (t.side ≡ 32))
+      go true e = inl (eqb-true t.side 8 e)
+      go false e = inr (either t.side 16 32 (rw e at k.side_kind))
+
+  pub block_kind : (t.block ≡ 8) ⊎ (t.block ≡ 16)
+  block_kind = either t.block 8 16 k.block
+
+  pub step_kind : (t.step ≡ 1) ⊎ (t.step ≡ 2)
+  step_kind = either t.step 1 2 k.step
+
   -- a fact of the block's side and the step is one of four
   pub sides : (P : ℕ → ℕ → Type 0) → P 8 1 → P 8 2 → P 16 1 → P 16 2 → P t.block t.step
-  sides P a b c d = go k.block k.step
+  sides P a b c d = go block_kind step_kind
     where
       go : (t.block ≡ 8) ⊎ (t.block ≡ 16) → (t.step ≡ 1) ⊎ (t.step ≡ 2) → P t.block t.step
       go (inl p) (inl q) = rw (p, q) a
@@ -28,14 +50,14 @@ module _ (t : Tile) (k : Sound t) where
 
   -- a block that is not of 8 is of 16
   pub block_else : (t.block ≡ 8 → ⊥) → t.block ≡ 16
-  block_else n = go k.block
+  block_else n = go block_kind
     where
       go : (t.block ≡ 8) ⊎ (t.block ≡ 16) → t.block ≡ 16
       go (inl p) = absurd (n p)
       go (inr p) = p
 
   pub step_else : (t.step ≡ 1 → ⊥) → t.step ≡ 2
-  step_else n = go k.step
+  step_else n = go step_kind
     where
       go : (t.step ≡ 1) ⊎ (t.step ≡ 2) → t.step ≡ 2
       go (inl p) = absurd (n p)
@@ -43,7 +65,7 @@ module _ (t : Tile) (k : Sound t) where
 
   -- a superblock that is not of 8 or 16 is of 32
   pub side_else : (t.side ≡ 8 → ⊥) → (t.side ≡ 16 → ⊥) → t.side ≡ 32
-  side_else n m = go k.side_kind
+  side_else n m = go side_kind
     where
       go : (t.side ≡ 8) ⊎ ((t.side ≡ 16) ⊎ (t.side ≡ 32)) → t.side ≡ 32
       go (inl p) = absurd (n p)
@@ -176,12 +198,12 @@ module _ (t : Tile) (k : Sound t) where
 -- ---- windows
 
 -- column b of a's window: at most one block to either side
-pub record Near (t : Tile) (a b : ℕ) : Type 0 where
+pub record Near (t : Geometry) (a b : ℕ) : Type 0 where
   pub right : b / t.block ≤ a / t.block + 1
   pub left : a / t.block ≤ b / t.block + 1
 
 -- a window of a block with the edge on both sides
-pub near_block : (t : Tile) → Sound t → (a b : ℕ) → a / t.block * t.block - t.edge ≤ b → b < a / t.block * t.block + t.block + t.edge → Near t a b
+pub near_block : (t : Geometry) → Sound t → (a b : ℕ) → a / t.block * t.block - t.edge ≤ b → b < a / t.block * t.block + t.block + t.edge → Near t a b
 near_block t k a b p q =
     record {
       right =
@@ -192,7 +214,7 @@ near_block t k a b p q =
           (λ p q. omega arith) (λ p q. omega arith) (λ p q. omega arith) (λ p q. omega arith) p k.edge;
     }
 
-pub near_col_lem : (t : Tile) → Sound t → (a b : ℕ) → near_col t a b ≡ true → Near t a b × (b < t.wide)
+pub near_col_lem : (t : Geometry) → Sound t → (a b : ℕ) → near_col t a b ≡ true → Near t a b × (b < t.wide)
 unfolding near_col block_start
 near_col_lem t k a b h =
     let w = and_both (leb (a / t.block * t.block - t.edge) b) (ltb b (min (a / t.block * t.block + t.block + t.edge) t.wide)) h in
@@ -201,7 +223,7 @@ near_col_lem t k a b h =
     (near_block t k a b l (omega arith), omega arith)
 
 -- a row of a's window is of a's block
-pub near_row : (t : Tile) → Sound t → (a b : ℕ) → same_rows t a b ≡ true → Near t a b × (b < t.high)
+pub near_row : (t : Geometry) → Sound t → (a b : ℕ) → same_rows t a b ≡ true → Near t a b × (b < t.high)
 unfolding same_rows block_start
 near_row t k a b h =
     let w = and_both (leb (a / t.block * t.block) b) (ltb b (min (a / t.block * t.block + t.block) t.high)) h in
@@ -210,11 +232,11 @@ near_row t k a b h =
     (near_block t k a b (omega arith) (omega arith), omega arith)
 
 -- the sampled place is in the window too
-pub near_step : (t : Tile) → Sound t → (a b : ℕ) → Near t a b → Near t a (on_step t b)
+pub near_step : (t : Geometry) → Sound t → (a b : ℕ) → Near t a b → Near t a (on_step t b)
 near_step t k a b n = record { right = rw (step_block t k b) n.right; left = rw (step_block t k b) n.left }
 
 -- a signed byte holds the way between two places of a window
-pub near_low : (t : Tile) → Sound t → (a b : ℕ) → Near t a b → (a ≤ b + 127) × (b ≤ a + 127)
+pub near_low : (t : Geometry) → Sound t → (a b : ℕ) → Near t a b → (a ≤ b + 127) × (b ≤ a + 127)
 near_low t k a b n =
     sides t k (λ B s. b / B ≤ a / B + 1 → a / B ≤ b / B + 1 → (a ≤ b + 127) × (b ≤ a + 127))
     (λ p q. omega arith) (λ p q. omega arith) (λ p q. omega arith) (λ p q. omega arith) n.right n.left

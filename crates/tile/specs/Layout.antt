@@ -2,9 +2,9 @@
 use Rattle.std.specs.Prelude.{Bool, ◌&&◌, ℕ, ◌+◌, ◌-◌, ◌*◌, ◌/◌, ◌%◌, min, leb, ltb, ℤ, pos, nat_abs, ◌+ℤ◌}
 use Rattle.std.specs.Int.Signed.{non_neg}
 use Rattle.intops.specs.Choice.{with_sign}
-use Rattle.tile.specs.declared.Tile.{Tile}
+use Rattle.tile.specs.Geometry.{Geometry}
 
-module _ (t : Tile) where
+module _ (t : Geometry) where
   -- the cells of a superblock row of the store, S × stride
   unfoldable pub row_cells : ℕ
   row_cells = t.side * t.stride

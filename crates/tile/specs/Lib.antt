@@ -1,4 +1,7 @@
+pub mod Geometry
 pub mod Layout
+pub mod Lent
 pub mod Owner
 pub mod Passes
 pub mod Sound
+pub mod Tiles

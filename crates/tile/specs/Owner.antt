@@ -1,11 +1,11 @@
 -- Whose cell it is (01 "Store": "the cell belongs to its column"). 01 leaves open which column a map cell has: docs/DECISIONS.md. Assumes nothing.
 use Rattle.std.specs.Prelude.{Bool, ◌&&◌, ℕ, ◌+◌, ◌-◌, ◌*◌, ◌/◌, ◌%◌, leb, ltb}
 use Rattle.store.specs.Store.{Kind, field_mvs, field_refs, trajs, maps}
-use Rattle.tile.specs.declared.Tile.{Tile}
+use Rattle.tile.specs.Geometry.{Geometry}
 use Rattle.tile.specs.Layout.{row_cells}
 
 -- Columns are owned block by block. Blocks count from 1 here, so that the one before the first has the number 0.
-module _ (t : Tile) where
+module _ (t : Geometry) where
   -- block n is one of the tile's
   unfoldable pub own_block : ℕ → Bool
   own_block n = leb (t.left / t.block + 1) n && leb n ((t.right - 1) / t.block + 1)

@@ -1,10 +1,10 @@
 -- The loops that the passes over a tile share. Assumes nothing.
 use Rattle.std.specs.Prelude.{Bool, ℕ, ◌+◌, min, leb, ltb}
 use Rattle.store.specs.Program.{Prog, each, each_by}
-use Rattle.tile.specs.declared.Tile.{Tile}
+use Rattle.tile.specs.Geometry.{Geometry}
 use Rattle.tile.specs.Layout.{block_start}
 
-module _ (t : Tile) where
+module _ (t : Geometry) where
   -- each row and column of the tile
   abbrev pub each_cell : (ℕ → ℕ → Prog) → Prog
   each_cell f = each t.top t.bottom (λ y. each t.left t.right (λ x. f y x))
