@@ -1,5 +1,5 @@
 -- The worked examples hold: the definitions compute to them. Assumes nothing.
-use Rattle.std.proofs.Common.{◌≡◌, refl, ap, ◌∙◌, cond, [], ◌∷◌, ◌⊎◌, inl, inr, ℕ, zero, suc, ◌+◌, ◌%◌, ◌≤◌, ◌<◌, arith, leb}
+use Rattle.std.proofs.Common.{◌≡◌, refl, ap, ◌∙◌, cond, [], ◌∷◌, ◌||◌, true, eqb, ℕ, zero, suc, ◌+◌, ◌%◌, ◌≤◌, ◌<◌, arith, leb}
 use Rattle.intops.proofs.Signed.{none_plus}
 use Rattle.levels.specs.declared.Mv.{Mv}
 use Rattle.levels.specs.Vector.{empty}
@@ -29,12 +29,12 @@ module _ {S : Type 0} (f : ℕ → S → S) where
   by_turns c (suc n) p q e h = ap (over f 1 n (p + 1)) h.0 ∙ by_turns c n (p + 1) q (omega arith) h.1
 
 -- the tiles are such as accepted calls have
-sound_row : (step edge wide : ℕ) → (step ≡ 1) ⊎ (step ≡ 2) → 1 ≤ step → edge ≤ 8 → edge % step ≡ 0 → 0 < wide → wide ≤ 32 → Sound (one_row step edge wide)
-sound_row step edge wide k l e m z w =
+sound_row : (step edge wide : ℕ) → (eqb step 1 || eqb step 2) ≡ true → 1 ≤ step → step ≤ 2 → edge ≤ 8 → edge % step ≡ 0 → 0 < wide → wide ≤ 32 → Sound (one_row step edge wide)
+sound_row step edge wide k l n e m z w =
     record {
       side = omega arith;
-      side_kind = inl refl;
-      block = inl refl;
+      side_kind = refl;
+      block = refl;
       step = k;
       few = omega arith;
       edge = e;
@@ -52,16 +52,18 @@ sound_row step edge wide k l e m z w =
       bottom = omega arith;
       frame_end = omega arith;
       side_low = omega arith;
+      block_low = omega arith;
+      step_low = n;
       stride_low = omega arith;
       high_low = omega arith;
       offset_low = omega arith;
     }
 
 pub sound_eight : Sound eight_wide
-sound_eight = sound_row 1 4 8 (inl refl) (omega arith) (omega arith) refl (omega arith) (omega arith)
+sound_eight = sound_row 1 4 8 refl (omega arith) (omega arith) (omega arith) refl (omega arith) (omega arith)
 
 pub sound_three : Sound three_wide
-sound_three = sound_row 2 8 3 (inr refl) (omega arith) (omega arith) refl (omega arith) (omega arith)
+sound_three = sound_row 2 8 3 refl (omega arith) (omega arith) (omega arith) refl (omega arith) (omega arith)
 
 -- turn by turn: from column 2 on each cell hands on to the next what the turn before has filled
 pub filled_in_place : FilledInPlace

@@ -2,10 +2,10 @@
 use Rattle.std.proofs.Common.{ℕ, ℤ}
 use Rattle.levels.specs.declared.Mv.{Mv}
 use Rattle.store.proofs.Keeps.{Keeps}
-use Rattle.tile.specs.declared.Tile.{Tile}
+use Rattle.tile.specs.Geometry.{Geometry}
 use Rattle.field.specs.Field.{copy_above, empty_field, project_tip, tip_projection, fill_hole, fill_around, fill_holes, smooth_cell, smooth_block, smoothen, put_gaps_proj, gap_proj, fill_gap_proj}
 
-module _ (Q : Mv → Type 0) (t : Tile) where
+module _ (Q : Mv → Type 0) (t : Geometry) where
   pub keeps_copy_above : Keeps Q (copy_above t)
   unfolding copy_above
   keeps_copy_above r x v b = (tt, tt)

@@ -1,5 +1,7 @@
 pub mod Owned
-pub mod Lists
+pub mod Borrows
 pub mod Ways
+pub mod Copies
+pub mod Rows
 pub mod Keeps
 pub mod Examples

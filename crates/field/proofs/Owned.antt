@@ -9,7 +9,7 @@ use Rattle.mv.specs.Sums.{no_sum, added}
 use Rattle.store.specs.Store.{Store, field_mvs, field_refs, rd}
 use Rattle.store.specs.Program.{write, each_by, read_own}
 use Rattle.store.proofs.Owned.{Owned, Idle, idle_loop}
-use Rattle.tile.specs.declared.Tile.{Tile}
+use Rattle.tile.specs.Geometry.{Geometry}
 use Rattle.tile.specs.Layout.{field_at}
 use Rattle.tile.specs.Owner.{own_block, owns}
 use Rattle.tile.specs.Passes.{has_left, has_right, has_above, has_below}
@@ -18,7 +18,7 @@ use Rattle.tile.proofs.Owner.{mine_in, mine_low, own_field, own_cell}
 use Rattle.tile.proofs.Passes.{Sampled, mine_sampled, mine_left, mine_right, mine_beside, mine_between, sampled, owned_samples, owned_cells}
 use Rattle.field.specs.Field.{copy_above, empty_field, project_tip, tip_projection, fill_hole, fill_around, fill_holes, added_if, around, smooth_cell, smooth_block, smoothen, beside, put_gaps_proj, gap_proj, fill_gap_proj}
 
-module _ (t : Tile) (k : Sound t) where
+module _ (t : Geometry) (k : Sound t) where
   -- the rows above: a cell of the store's first three rows, before the superblock row
   pub own_above : (r x : ℕ) → r < 3 → t.offset ≡ 3 * t.stride → own_block t (x / t.block + 1) ≡ true
       → (owns t field_mvs (r * t.stride + x) ≡ true) × (owns t field_refs (r * t.stride + x) ≡ true)

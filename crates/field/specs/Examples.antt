@@ -5,21 +5,21 @@ use Rattle.levels.specs.Vector.{empty}
 use Rattle.mv.specs.Sums.{is_empty}
 use Rattle.store.specs.Store.{Store, field_mvs, field_refs, byte_cell, with_field, wr}
 use Rattle.store.specs.Program.{run}
-use Rattle.tile.specs.declared.Tile.{Tile}
+use Rattle.tile.specs.Geometry.{Geometry}
 use Rattle.tile.specs.Owner.{owns}
 use Rattle.field.specs.Field.{as_byte, fill_holes, fill_gap_proj}
 
 -- the tile of a frame one cell high and at most 32 wide, which has superblock code 0: S = 8, B = 8, stride 32. In whole-frame mode its first cell is the field's
-abbrev pub one_row : ℕ → ℕ → ℕ → Tile
+abbrev pub one_row : ℕ → ℕ → ℕ → Geometry
 one_row step edge wide =
     record { side = 8; block = 8; edge = edge; step = step; wide = wide; high = 1; stride = 32; offset = 0; left = 0; right = wide; top = 0; bottom = 1 }
 
 -- 64 pixels wide, step 1: a block of eight cells
-abbrev pub eight_wide : Tile
+abbrev pub eight_wide : Geometry
 eight_wide = one_row 1 4 8
 
 -- 24 pixels wide, step 2: of columns 0, 1 and 2 the first and the last are sampled, and column W is 3
-abbrev pub three_wide : Tile
+abbrev pub three_wide : Geometry
 three_wide = one_row 2 8 3
 
 -- a store whose field begins with these vectors and reference bytes, and goes on in any way

@@ -7,7 +7,7 @@ use Rattle.mv.specs.Sums.{is_empty, no_sum, added, smoothed_of, gap_of}
 use Rattle.mv.specs.Projection.{projection_factor, scaled_vector}
 use Rattle.store.specs.Store.{Kind, field_mvs, field_refs, byte_cell}
 use Rattle.store.specs.Program.{Prog, read, write, test, snapshot, cell, when, each, each_by, ◌>>=◌, ◌>>◌}
-use Rattle.tile.specs.declared.Tile.{Tile}
+use Rattle.tile.specs.Geometry.{Geometry}
 use Rattle.tile.specs.Layout.{field_at}
 use Rattle.tile.specs.Passes.{each_cell, each_block, each_sample, has_left, has_right, has_above, has_below}
 
@@ -34,7 +34,7 @@ added_if b v s = cond b (added v s) s
 abbrev pub beside : Bool → ℕ → Mv → (Mv → Prog) → Prog
 beside b i ref_off f = test b (read field_mvs i (λ v. read field_refs i (λ r. f (cond (is_empty v) empty (projected ref_off.y r.y v))))) (f empty)
 
-module _ (t : Tile) where
+module _ (t : Geometry) where
   -- "copy three rows above, in the tile's columns (row mode only)": the store still holds the superblock row that was loaded before; its rows S-3 to S-1 go to the three rows in front.
   -- So always, also where the tile begins at row 0, and after a superblock row that the frame's end cut short
   unfoldable pub copy_above : Prog

@@ -1,3 +1,5 @@
 pub mod Field
 pub mod Code
 pub mod Examples
+pub mod Lent
+pub mod Copied

@@ -1,149 +1,192 @@
-// The copy of the rows above, emptying and tip_projection, and what the field's other passes share.
+// The field that a load is lent: its cells, the copy of the rows above, emptying and tip_projection.
 #![tactic(auto)]
 
-ghost use Rattle.std.specs.Prelude.{◌≡◌, ◌+◌, ◌*◌, ◌≤◌, ◌<◌, pos, length};
+ghost use Rattle.std.specs.Prelude.{◌≡◌, ◌+◌, ◌*◌, ◌≤◌, ◌<◌, length, pos};
 ghost use Rattle.levels.specs.declared.Mv.{Mv};
-ghost use Rattle.mv.specs.Projection.{reciprocals};
-ghost use Rattle.store.specs.Store.{Store, field_mvs, field_refs, byte_cell, rd, wr, with_field};
+ghost use Rattle.store.specs.Lent.{held, filled};
+ghost use Rattle.store.specs.Store.{Store, field_mvs, field_refs, byte_cell, wr};
 ghost use Rattle.store.specs.Program.{run};
 ghost use Rattle.tile.specs.Layout.{row_cells};
 ghost use Rattle.tile.specs.Owner.{owns};
-ghost use Rattle.tile.specs.Sound.{Sound, InTile, FieldHeld};
+ghost use Rattle.tile.specs.Sound.{InTile};
+ghost use Rattle.tile.specs.Tiles.{geometry};
+ghost use Rattle.field.specs.Copied.{copied};
 ghost use Rattle.field.specs.Field.{as_byte, projected, copy_above, empty_field, project_tip, tip_projection};
+ghost use Rattle.field.specs.Lent.{IsWithin, IsHeld, IsSameField, vector_in, stored, with_vectors};
 
 use levels::Mv;
-use tile::Tile;
+use tile::{Pass, SampledCell, Tile, walk};
 
-// A cell with its reference byte.
-pub fn put(field_y: &mut [i32], field_x: &mut [i32], field_ref: &mut [u8], at: usize, v: Mv, r: u8)
-    requires { (at < length field_y.old) × (at < length field_x.old) × (at < length field_ref.old) }
-    ensures { (s : Store) → with_field s field_y.new field_x.new field_ref.new
-        ≡ wr (wr (with_field s field_y.old field_x.old field_ref.old) field_mvs at v) field_refs at (byte_cell r) }
-{
-    let y = v.y;
-    let x = v.x;
-    field_y[at] = y;
-    field_x[at] = x;
-    field_ref[at] = r;
+/// The field's lists as a load is lent them (rp_proj): a vector for each cell, and the distance
+/// to its reference.
+#[derive(Drop)]
+pub struct Field<'a> {
+    /// The vectors' y.
+    pub y: &'a mut [i32],
+    /// Their x.
+    pub x: &'a mut [i32],
+    /// The reference bytes.
+    pub reference: &'a mut [u8],
 }
 
-// The reference bytes are left, so they are not lent.
-pub fn empty_field(field_y: &mut [i32], field_x: &mut [i32], t: Tile)
-    requires { Sound t × (t.offset + row_cells t ≤ length field_y.old) × (t.offset + row_cells t ≤ length field_x.old) }
-    ensures { (s : Store) → with_field s field_y.new field_x.new s.field_ref
-        ≡ run (owns t) (empty_field t) (with_field s field_y.old field_x.old s.field_ref) }
+impl<'a> Field<'a> {
+    /// The vector at a place, which may be empty.
+    pub fn vector(&self, at: usize) -> Mv
+        requires { IsWithin self.now at }
+        ensures { result ≡ vector_in self.now at }
+    {
+        Mv {
+            y: self.y[at],
+            x: self.x[at],
+        }
+    }
+
+    /// The vector at a place, none where it is empty.
+    pub fn cell(&self, at: usize) -> Option<Mv>
+        requires { IsWithin self.now at }
+        ensures { result ≡ held (vector_in self.now at) }
+    {
+        let v = self.vector(at);
+        (!mv::is_empty(v)).then_some(v)
+    }
+
+    /// Writes a vector with its reference byte.
+    pub fn put(&mut self, at: usize, v: Mv, r: u8)
+        requires { IsWithin self.old at }
+        ensures same_borrow { IsSameField self.new self.old }
+        ensures stored { (s : Store) → stored s self.new ≡ wr (wr (stored s self.old) field_mvs at v) field_refs at (byte_cell r) }
+    {
+        self.y[at] = v.y;
+        self.x[at] = v.x;
+        self.reference[at] = r;
+    }
+
+    // Copies n cells with their reference bytes to a place before them.
+    fn copy_cells(&mut self, from: usize, to: usize, n: usize)
+        requires before { to + n ≤ from }
+        requires y { from + n ≤ length self.old.y.now }
+        requires x { from + n ≤ length self.old.x.now }
+        requires reference { from + n ≤ length self.old.reference.now }
+        ensures same_borrow { IsSameField self.new self.old }
+        ensures y { self.new.y.now ≡ copied from to n self.old.y.now }
+        ensures x { self.new.x.now ≡ copied from to n self.old.x.now }
+        ensures reference { self.new.reference.now ≡ copied from to n self.old.reference.now }
+    {
+        self.y.copy_within(from..from + n, to);
+        self.x.copy_within(from..from + n, to);
+        self.reference.copy_within(from..from + n, to);
+    }
+
+    // Empties the vectors from place a up to b.
+    fn empty_cells(&mut self, a: usize, b: usize)
+        requires order { a ≤ b }
+        requires y { b ≤ length self.old.y.now }
+        requires x { b ≤ length self.old.x.now }
+        ensures same_borrow { IsSameField self.new self.old }
+        ensures y { self.new.y.now ≡ filled (pos 2097152) a b self.old.y.now }
+        ensures x { self.new.x.now ≡ filled (pos 0) a b self.old.x.now }
+        ensures reference { self.new.reference.now ≡ self.old.reference.now }
+    {
+        self.y[a..b].fill(levels::INVALID_MV);
+        self.x[a..b].fill(0);
+    }
+}
+
+/// Empties the tile's cells. The reference bytes are left.
+pub fn empty_field(field: &mut Field<'_>, t: &Tile)
+    requires y { t.now.offset + row_cells (geometry t.now) ≤ length field.old.y.now }
+    requires x { t.now.offset + row_cells (geometry t.now) ≤ length field.old.x.now }
+    ensures same_borrow { IsSameField field.new field.old }
+    ensures vectors { (s : Store) → with_vectors s field.new ≡ run (owns (geometry t.now)) (empty_field (geometry t.now)) (with_vectors s field.old) }
+    ensures reference { field.new.reference.now ≡ field.old.reference.now }
+    ensures stored { (s : Store) → stored s field.new ≡ run (owns (geometry t.now)) (empty_field (geometry t.now)) (stored s field.old) }
 {
     for y in t.top..t.bottom {
-        for x in t.left..t.right {
-            let at = tile::field_at(t, y, x);
-            field_y[at] = levels::INVALID_MV;
-            field_x[at] = 0;
-        }
+        let row = t.field_at(y, 0);
+        field.empty_cells(row + t.left, row + t.right);
     }
 }
 
-// A cell with its reference byte, in another place.
-fn copy_cell(field_y: &mut [i32], field_x: &mut [i32], field_ref: &mut [u8], from: usize, to: usize)
-    requires from_in_bounds { (from < length field_y.old) × (from < length field_x.old) × (from < length field_ref.old) }
-    requires to_in_bounds { (to < length field_y.old) × (to < length field_x.old) × (to < length field_ref.old) }
-    ensures { (s : Store) → with_field s field_y.new field_x.new field_ref.new
-        ≡ (let u = with_field s field_y.old field_x.old field_ref.old in
-        wr (wr u field_mvs to (rd u field_mvs from)) field_refs to (rd u field_refs from)) }
-{
-    let v = tile::cell_at(field_y, field_x, from);
-    let r = field_ref[from];
-    put(field_y, field_x, field_ref, to, v, r);
-}
-
-// Row mode: the superblock row's last three rows, of the load before, go to the rows in front of it.
-pub fn copy_above(field_y: &mut [i32], field_x: &mut [i32], field_ref: &mut [u8], t: Tile)
-    requires { Sound t × (t.offset ≡ 3 * t.stride) × FieldHeld t field_y.old field_x.old field_ref.old }
-    ensures { (s : Store) → with_field s field_y.new field_x.new field_ref.new
-        ≡ run (owns t) (copy_above t) (with_field s field_y.old field_x.old field_ref.old) }
+/// Row mode: the superblock row's last three rows, of the load before, go to the rows in front of
+/// it.
+pub fn copy_above(field: &mut Field<'_>, t: &Tile)
+    requires row_mode { t.now.offset ≡ 3 * t.now.stride }
+    requires held { IsHeld (geometry t.now) field.old }
+    ensures same_borrow { IsSameField field.new field.old }
+    ensures stored { (s : Store) → stored s field.new ≡ run (owns (geometry t.now)) (copy_above (geometry t.now)) (stored s field.old) }
 {
     for r in 0..3 {
-        for x in t.left..t.right {
-            let from = t.offset + ((t.side - 3 + r) * t.stride + x);
-            copy_cell(field_y, field_x, field_ref, from, r * t.stride + x);
-        }
+        let from = t.offset + ((t.side - 3 + r) * t.stride + t.left);
+        field.copy_cells(from, r * t.stride + t.left, t.right - t.left);
     }
 }
 
-// A signed byte kept in an unsigned one.
+/// A signed byte kept in an unsigned one.
 pub fn as_byte(d: i8) -> u8
     ensures { result ≡ as_byte d }
 {
-    if d < 0 {
-        (256 + d as i32) as u8
-    } else {
-        d as u8
-    }
+    d.cast_unsigned()
 }
 
-// A reference byte as a distance.
-pub fn wide(r: u8) -> i32
-    ensures { result ≡ pos r }
-{
-    r as i32
-}
-
-// mv_projection with the passes' bounds.
-pub fn project(table: &[u16; 32], num: i32, den: i32, v: Mv) -> Mv
-    requires { table.now ≡ reciprocals }
+/// mv_projection with the passes' bounds.
+pub fn project(num: i32, den: i32, v: Mv) -> Mv
     ensures { result ≡ projected num den v }
 {
-    let sf = mv::projection_factor(table, num, den);
+    let sf = mv::projection_factor(num, den);
     mv::scale_vector(v, sf, -2047, 2047)
 }
 
-fn project_tip(
-    field_y: &mut [i32],
-    field_x: &mut [i32],
-    field_ref: &mut [u8],
-    table: &[u16; 32],
-    t: Tile,
+// What tip_projection does at each sampled cell.
+#[derive(Drop)]
+struct TipProjection {
     delta: i8,
-    y: usize,
-    x: usize,
-)
-    requires { Sound t × InTile t y x × FieldHeld t field_y.old field_x.old field_ref.old × (table.now ≡ reciprocals) }
-    ensures { (s : Store) → with_field s field_y.new field_x.new field_ref.new
-        ≡ run (owns t) (project_tip t delta y x) (with_field s field_y.old field_x.old field_ref.old) }
-{
-    let at = tile::field_at(t, y, x);
-    let v = tile::cell_at(field_y, field_x, at);
-    if mv::is_empty(v) {
-        return;
-    }
-    let den = wide(field_ref[at]);
-    let w = project(table, delta as i32, den, v);
-    put(field_y, field_x, field_ref, at, w, as_byte(delta));
 }
 
-pub fn tip_projection(
-    field_y: &mut [i32],
-    field_x: &mut [i32],
-    field_ref: &mut [u8],
-    table: &[u16; 32],
-    t: Tile,
-    delta: i8,
-)
-    requires { Sound t × FieldHeld t field_y.old field_x.old field_ref.old × (table.now ≡ reciprocals) }
-    ensures { (s : Store) → with_field s field_y.new field_x.new field_ref.new
-        ≡ run (owns t) (tip_projection t delta) (with_field s field_y.old field_x.old field_ref.old) }
-{
-    let mut sx = t.left;
-    while sx < t.right {
-        let xend = tile::least(t.right, sx + t.block);
-        let mut y = t.top;
-        while y < t.bottom {
-            let mut x = sx;
-            while x < xend {
-                project_tip(field_y, field_x, field_ref, table, t, delta, y, x);
-                x += t.step;
-            }
-            y += t.step;
-        }
-        sx += t.block;
+impl<'a> Pass<Field<'a>> for TipProjection {
+    ghost use Rattle.std.proofs.Common.{rules};
+
+    ghost stored = { stored };
+
+    ghost Held = { IsHeld };
+
+    ghost Same = { IsSameField };
+
+    ghost Fits = { λ p t. Unit {0} };
+
+    ghost program = { λ p t sx xend y x. project_tip t p.delta y x };
+
+    ghost same = { Prim.search rules };
+
+    ghost same_after = { Prim.search rules };
+
+    ghost held_after = { Prim.search rules };
+
+    fn visit(&self, field: &mut Field<'a>, t: &Tile, at: SampledCell) {
+        project_tip(field, t, self.delta, at.y, at.x);
     }
+}
+
+fn project_tip(field: &mut Field<'_>, t: &Tile, delta: i8, y: usize, x: usize)
+    requires inside { InTile (geometry t.now) y x }
+    requires held { IsHeld (geometry t.now) field.old }
+    ensures same_borrow { IsSameField field.new field.old }
+    ensures stored { (s : Store) → stored s field.new ≡ run (owns (geometry t.now)) (project_tip (geometry t.now) delta y x) (stored s field.old) }
+{
+    let at = t.field_at(y, x);
+    let Some(v) = field.cell(at) else {
+        return;
+    };
+    let den = i32::from(field.reference[at]);
+    let w = project(i32::from(delta), den, v);
+    field.put(at, w, as_byte(delta));
+}
+
+/// Projects each sampled cell that is not empty to the TIP distance, which becomes its reference
+/// byte.
+pub fn tip_projection(field: &mut Field<'_>, t: &Tile, delta: i8)
+    requires held { IsHeld (geometry t.now) field.old }
+    ensures same_borrow { IsSameField field.new field.old }
+    ensures stored { (s : Store) → stored s field.new ≡ run (owns (geometry t.now)) (tip_projection (geometry t.now) delta) (stored s field.old) }
+{
+    walk(&TipProjection { delta }, field, t);
 }

@@ -1,135 +1,91 @@
 // Hole filling: fill_holes of refmvs.rs.
 #![tactic(auto)]
 
-ghost use Rattle.std.specs.Prelude.{◌≡◌, true, ◌+◌};
-ghost use Rattle.levels.specs.declared.Mv.{Mv};
-ghost use Rattle.store.specs.Store.{Store, with_field};
-ghost use Rattle.store.specs.Program.{run, when};
+ghost use Rattle.std.specs.Prelude.{◌≡◌};
+ghost use Rattle.store.specs.Store.{Store};
+ghost use Rattle.store.specs.Program.{run};
 ghost use Rattle.tile.specs.Owner.{owns};
-ghost use Rattle.tile.specs.Sound.{Sound, InTile, Sample, FieldHeld};
+ghost use Rattle.tile.specs.Sound.{InTile, Sample};
+ghost use Rattle.tile.specs.Tiles.{geometry};
 ghost use Rattle.field.specs.Field.{fill_hole, fill_around, fill_holes};
+ghost use Rattle.field.specs.Lent.{IsHeld, IsSameField, stored};
 
+use field::Field;
 use levels::Mv;
-use tile::Tile;
+use tile::{Pass, SampledCell, Tile, walk};
 
-// v goes into a cell that is there and empty.
-fn fill_hole(
-    field_y: &mut [i32],
-    field_x: &mut [i32],
-    field_ref: &mut [u8],
-    there: bool,
-    t: Tile,
-    delta: i8,
-    v: Mv,
-    y: usize,
-    x: usize,
-)
-    requires { Sound t × (there ≡ true → InTile t y x) × FieldHeld t field_y.old field_x.old field_ref.old }
-    ensures { (s : Store) → with_field s field_y.new field_x.new field_ref.new
-        ≡ run (owns t) (when there (fill_hole t delta v y x)) (with_field s field_y.old field_x.old field_ref.old) }
+// v goes into a cell that is empty.
+fn fill_hole(field: &mut Field<'_>, t: &Tile, delta: i8, v: Mv, y: usize, x: usize)
+    requires inside { InTile (geometry t.now) y x }
+    requires held { IsHeld (geometry t.now) field.old }
+    ensures same_borrow { IsSameField field.new field.old }
+    ensures stored { (s : Store) → stored s field.new ≡ run (owns (geometry t.now)) (fill_hole (geometry t.now) delta v y x) (stored s field.old) }
 {
-    if !there {
-        return;
+    let at = t.field_at(y, x);
+    if field.cell(at).is_none() {
+        field.put(at, v, field::as_byte(delta));
     }
-    let at = tile::field_at(t, y, x);
-    let u = tile::cell_at(field_y, field_x, at);
-    if !mv::is_empty(u) {
-        return;
-    }
-    field::put(field_y, field_x, field_ref, at, v, field::as_byte(delta));
 }
 
 // A cell that is not empty fills its empty neighbours of the block.
-fn fill_around(
-    field_y: &mut [i32],
-    field_x: &mut [i32],
-    field_ref: &mut [u8],
-    t: Tile,
-    delta: i8,
-    sx: usize,
-    xend: usize,
-    y: usize,
-    x: usize,
-)
-    requires { Sound t × Sample t sx xend y x × FieldHeld t field_y.old field_x.old field_ref.old }
-    ensures { (s : Store) → with_field s field_y.new field_x.new field_ref.new
-        ≡ run (owns t) (fill_around t delta sx xend y x) (with_field s field_y.old field_x.old field_ref.old) }
+fn fill_around(field: &mut Field<'_>, t: &Tile, delta: i8, at: SampledCell)
+    requires sampled { Sample (geometry t.now) at.start at.end at.y at.x }
+    requires held { IsHeld (geometry t.now) field.old }
+    ensures same_borrow { IsSameField field.new field.old }
+    ensures stored { (s : Store) → stored s field.new ≡ run (owns (geometry t.now)) (fill_around (geometry t.now) delta at.start at.end at.y at.x) (stored s field.old) }
 {
-    let at = tile::field_at(t, y, x);
-    let v = tile::cell_at(field_y, field_x, at);
-    if mv::is_empty(v) {
+    let Some(v) = field.cell(t.field_at(at.y, at.x)) else {
         return;
+    };
+    if at.has_left(t) {
+        fill_hole(field, t, delta, v, at.y, at.x - t.step);
     }
-    fill_hole(
-        field_y,
-        field_x,
-        field_ref,
-        sx + t.step <= x,
-        t,
-        delta,
-        v,
-        y,
-        tile::less(x, t.step),
-    );
-    fill_hole(
-        field_y,
-        field_x,
-        field_ref,
-        x + t.step < xend,
-        t,
-        delta,
-        v,
-        y,
-        x + t.step,
-    );
-    fill_hole(
-        field_y,
-        field_x,
-        field_ref,
-        tile::has_above(t, y),
-        t,
-        delta,
-        v,
-        tile::less(y, t.step),
-        x,
-    );
-    fill_hole(
-        field_y,
-        field_x,
-        field_ref,
-        tile::has_below(t, y),
-        t,
-        delta,
-        v,
-        y + t.step,
-        x,
-    );
+    if at.has_right(t) {
+        fill_hole(field, t, delta, v, at.y, at.x + t.step);
+    }
+    if t.has_above(at.y) {
+        fill_hole(field, t, delta, v, at.y - t.step, at.x);
+    }
+    if t.has_below(at.y) {
+        fill_hole(field, t, delta, v, at.y + t.step, at.x);
+    }
 }
 
-// In place: what one cell has filled, the next may hand on.
-pub fn fill_holes(
-    field_y: &mut [i32],
-    field_x: &mut [i32],
-    field_ref: &mut [u8],
-    t: Tile,
+// What fill_holes does at each sampled cell.
+#[derive(Drop)]
+struct HoleFilling {
     delta: i8,
-)
-    requires { Sound t × FieldHeld t field_y.old field_x.old field_ref.old }
-    ensures { (s : Store) → with_field s field_y.new field_x.new field_ref.new
-        ≡ run (owns t) (fill_holes t delta) (with_field s field_y.old field_x.old field_ref.old) }
-{
-    let mut sx = t.left;
-    while sx < t.right {
-        let xend = tile::least(t.right, sx + t.block);
-        let mut y = t.top;
-        while y < t.bottom {
-            let mut x = sx;
-            while x < xend {
-                fill_around(field_y, field_x, field_ref, t, delta, sx, xend, y, x);
-                x += t.step;
-            }
-            y += t.step;
-        }
-        sx += t.block;
+}
+
+impl<'a> Pass<Field<'a>> for HoleFilling {
+    ghost use Rattle.std.proofs.Common.{rules};
+
+    ghost stored = { stored };
+
+    ghost Held = { IsHeld };
+
+    ghost Same = { IsSameField };
+
+    ghost Fits = { λ p t. Unit {0} };
+
+    ghost program = { λ p t sx xend y x. fill_around t p.delta sx xend y x };
+
+    ghost same = { Prim.search rules };
+
+    ghost same_after = { Prim.search rules };
+
+    ghost held_after = { Prim.search rules };
+
+    fn visit(&self, field: &mut Field<'a>, t: &Tile, at: SampledCell) {
+        fill_around(field, t, self.delta, at);
     }
+}
+
+/// Fills the holes of each block, in place: what one cell has filled, the next may hand on.
+pub fn fill_holes(field: &mut Field<'_>, t: &Tile, delta: i8)
+    requires held { IsHeld (geometry t.now) field.old }
+    ensures same_borrow { IsSameField field.new field.old }
+    ensures stored { (s : Store) → stored s field.new ≡ run (owns (geometry t.now)) (fill_holes (geometry t.now) delta) (stored s field.old) }
+{
+    walk(&HoleFilling { delta }, field, t);
 }

@@ -1,9 +1,11 @@
 -- What the contracts of smoothing's code speak of besides the definitions. Assumes nothing.
-use Rattle.std.specs.Prelude.{◌≡◌, ℕ, ◌+◌, ◌-◌, ◌/◌, ◌%◌, ◌≤◌, ◌<◌, min}
-use Rattle.tile.specs.declared.Tile.{Tile}
+use Rattle.std.specs.Prelude.{◌≡◌, List, ℕ, ◌+◌, ◌-◌, ◌/◌, ◌%◌, ◌≤◌, ◌<◌, min, pos, get_or}
+use Rattle.levels.specs.declared.Mv.{Mv}
+use Rattle.store.specs.Store.{vec}
+use Rattle.tile.specs.Geometry.{Geometry}
 
 -- the block from row sy, column sx on, and how many sampled rows and columns it has
-pub record InBlock (t : Tile) (sx xend sy rows cols : ℕ) : Type 0 where
+pub record InBlock (t : Geometry) (sx xend sy rows cols : ℕ) : Type 0 where
   pub left : t.left ≤ sx
   pub right : sx < t.right
   pub on_col : sx % t.block ≡ 0
@@ -13,3 +15,7 @@ pub record InBlock (t : Tile) (sx xend sy rows cols : ℕ) : Type 0 where
   pub on_row : sy % t.block ≡ 0
   pub row_count : rows ≡ (min t.bottom (sy + t.block) - sy + (t.step - 1)) / t.step
   pub col_count : cols ≡ (xend - sx + (t.step - 1)) / t.step
+
+-- mean i of a block's list of means, (0, 0) past its end
+abbrev pub mean_in : List Mv → ℕ → Mv
+mean_in means i = get_or means i (vec (pos 0) (pos 0))
