@@ -1,49 +1,38 @@
--- The lists of trajectories and of maps as the passes are lent them: two and two. Assumes nothing.
-use Rattle.std.proofs.Common.{refl, arith}
-use Rattle.store.specs.Store.{Store, with_traj}
-use Rattle.store.proofs.Lent.{Lent, Two, LikeTwo, like_two, two_trans, two_lent}
-use Rattle.tile.specs.declared.Tile.{Tile}
-use Rattle.tile.specs.Sound.{TrajHeld, MapHeld}
+-- Trajectories and maps as the passes are lent them, in loops. Assumes nothing.
+use Rattle.std.proofs.Common.{ℤ}
+use Rattle.store.specs.declared.Pairs.{Pairs}
+use Rattle.store.specs.Lent.{IsSamePairs, with_trajs, with_maps, stored_trajs}
+use Rattle.store.specs.Store.{Store}
+use Rattle.store.proofs.Borrows.{same_pairs, same_pairs_after}
+use Rattle.store.proofs.Lent.{Lent}
+
+abbrev pub pairs_lent : (Store → Pairs ℤ → Store) → Lent (Pairs ℤ)
+pairs_lent into = record { into = into; Like = IsSamePairs; like_refl = λ p. same_pairs p; like_trans = λ p q r a b. same_pairs_after a b }
 
 -- trajectories alone, maps alone
-abbrev pub with_trajs : Store → Two → Store
-with_trajs s l = with_traj s l.y l.x s.map_y s.map_x
+abbrev pub trajs_lent : Lent (Pairs ℤ)
+trajs_lent = pairs_lent with_trajs
 
-abbrev pub with_maps : Store → Two → Store
-with_maps s l = with_traj s s.traj_y s.traj_x l.y l.x
+abbrev pub maps_lent : Lent (Pairs ℤ)
+maps_lent = pairs_lent with_maps
 
-abbrev pub trajs_lent : Lent Two
-trajs_lent = two_lent with_trajs
+-- both
+pub record Both : Type 0 where
+  pub trajs : Pairs ℤ
+  pub maps : Pairs ℤ
 
-abbrev pub maps_lent : Lent Two
-maps_lent = two_lent with_maps
+abbrev pub both : Pairs ℤ → Pairs ℤ → Both
+both t m = record { trajs = t; maps = m }
 
--- all four
-pub record Four : Type 0 where
-  pub trajs : Two
-  pub maps : Two
+pub record IsSameBoth (l m : Both) : Type 0 where
+  pub trajs : IsSamePairs l.trajs m.trajs
+  pub maps : IsSamePairs l.maps m.maps
 
-abbrev pub four : Two → Two → Four
-four l m = record { trajs = l; maps = m }
-
-pub record LikeAll (l m : Four) : Type 0 where
-  pub trajs : LikeTwo l.trajs m.trajs
-  pub maps : LikeTwo l.maps m.maps
-
-abbrev pub with_all : Store → Four → Store
-with_all s l = with_traj s l.trajs.y l.trajs.x l.maps.y l.maps.x
-
-abbrev pub all_lent : Lent Four
+abbrev pub all_lent : Lent Both
 all_lent =
     record {
-      into = with_all;
-      Like = LikeAll;
-      like_refl = λ l. record { trajs = like_two refl refl; maps = like_two refl refl };
-      like_trans = λ l m n p q. record { trajs = two_trans p.trajs q.trajs; maps = two_trans p.maps q.maps };
+      into = λ s l. stored_trajs s l.trajs l.maps;
+      Like = IsSameBoth;
+      like_refl = λ l. record { trajs = same_pairs l.trajs; maps = same_pairs l.maps };
+      like_trans = λ l m n p q. record { trajs = same_pairs_after p.trajs q.trajs; maps = same_pairs_after p.maps q.maps };
     }
-
-pub trajs_held : (t : Tile) (l m : Two) → LikeTwo l m → TrajHeld t m.y m.x → TrajHeld t l.y l.x
-trajs_held t l m p h = record { y = omega (arith, p.y, h.y); x = omega (arith, p.x, h.x) }
-
-pub maps_held : (t : Tile) (l m : Two) → LikeTwo l m → MapHeld t m.y m.x → MapHeld t l.y l.x
-maps_held t l m p h = record { y = omega (arith, p.y, h.y); x = omega (arith, p.x, h.x) }

@@ -6,7 +6,7 @@ use Rattle.levels.specs.Vector.{empty}
 use Rattle.store.specs.Store.{trajs, maps}
 use Rattle.store.specs.Program.{write, cell_if}
 use Rattle.store.proofs.Owned.{Owned}
-use Rattle.tile.specs.declared.Tile.{Tile}
+use Rattle.tile.specs.Geometry.{Geometry}
 use Rattle.tile.specs.Layout.{traj_at, map_at, moved}
 use Rattle.tile.specs.Owner.{own_block, owns}
 use Rattle.tile.specs.Passes.{has_right, has_below}
@@ -17,7 +17,7 @@ use Rattle.tile.proofs.Passes.{Sampled, mine_sampled, mine_beside, mine_between,
 use Rattle.traj.specs.Traj.{empty_traj, empty_map, empty_trajs, enter_end, extend, follow, first_half, second_half, check_traj_intersect, put_gaps_traj, gap_traj, fill_gap_traj}
 use Rattle.traj.proofs.Windows.{ends_near, leads_near, in_frame_lem}
 
-module _ (t : Tile) (k : Sound t) where
+module _ (t : Geometry) (k : Sound t) where
   pub owned_empty_traj : (n : ℕ) → n < 7 → Owned (owns t) (empty_traj t n)
   unfolding empty_traj
   owned_empty_traj n l = owned_cells t k (λ y x. write trajs (traj_at t n y x) empty) (λ y x p q. own_traj t k n y x l (mine_in t k x p q))

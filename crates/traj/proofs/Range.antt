@@ -11,7 +11,7 @@ use Rattle.mv.specs.declared.Sum.{Sum}
 use Rattle.mv.specs.Averages.{gap_mean}
 use Rattle.mv.specs.Sums.{is_empty, no_sum, added, gap_of}
 use Rattle.store.proofs.Keeps.{Keeps}
-use Rattle.tile.specs.declared.Tile.{Tile}
+use Rattle.tile.specs.Geometry.{Geometry}
 use Rattle.traj.specs.Traj.{clipped, sum_of, traj_in_range, empty_traj, empty_map, empty_trajs, enter_end, extend, follow, first_half, second_half, check_traj_intersect, put_gaps_traj, gap_traj, fill_gap_traj}
 
 abbrev pub InRange : Mv → Type 0
@@ -81,7 +81,7 @@ mean_small n z h =
 pub gap_in : (s : Sum) → SmallSum s → InRange (gap_of s)
 gap_in s k = small_in (gap_of s) (mean_small s.n s.y k.y) (mean_small s.n s.x k.x)
 
-module _ (t : Tile) where
+module _ (t : Geometry) where
   pub keeps_empty_trajs : Keeps InRange (empty_trajs t)
   unfolding empty_trajs empty_traj empty_map
   keeps_empty_trajs n = (λ y x. empty_in, λ j y x. tt)

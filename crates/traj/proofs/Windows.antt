@@ -2,24 +2,24 @@
 use Rattle.std.proofs.Common.{◌≡◌, Bool, true, not, ◌&&◌, ℕ, ◌+◌, ◌/◌, ◌<◌, arith, ltb-true, eqb-true, eqb, ltb}
 use Rattle.intops.proofs.Tests.{and_both}
 use Rattle.levels.specs.declared.Mv.{Mv}
-use Rattle.tile.specs.declared.Tile.{Tile}
+use Rattle.tile.specs.Geometry.{Geometry}
 use Rattle.tile.specs.Layout.{on_step, near_col, same_rows, cells_of, there, moved}
 use Rattle.tile.specs.Sound.{Sound}
 use Rattle.tile.proofs.Places.{step_le, Near, near_col_lem, near_row, near_step}
 use Rattle.traj.specs.Traj.{is_no_map, ends_in, leads, in_frame}
 
 -- (y₂, x₂) is a place of the window of (y₁, x₁)'s block
-pub record Ends (t : Tile) (y₁ x₁ y₂ x₂ : ℕ) : Type 0 where
+pub record Ends (t : Geometry) (y₁ x₁ y₂ x₂ : ℕ) : Type 0 where
   pub rows : Near t y₁ y₂
   pub cols : Near t x₁ x₂
   pub low : x₂ < t.wide
 
 -- a map cell of plane j at (y, x) leads to (y₁, x₁)
-pub record Leads (t : Tile) (j y x y₁ x₁ : ℕ) : Type 0 where
+pub record Leads (t : Geometry) (j y x y₁ x₁ : ℕ) : Type 0 where
   pub block : x₁ / t.block + 1 ≡ x / t.block + j
   pub rows : Near t y₁ y
 
-module _ (t : Tile) (k : Sound t) where
+module _ (t : Geometry) (k : Sound t) where
   pub ends_near : (y₁ x₁ y x : ℕ) (v : Mv) → ends_in t y₁ x₁ y x v ≡ true → Ends t y₁ x₁ (on_step t (moved y (cells_of v.y))) (on_step t (moved x (cells_of v.x)))
   unfolding ends_in
   ends_near y₁ x₁ y x v h =

@@ -10,7 +10,7 @@ use Rattle.levels.specs.Vector.{empty}
 use Rattle.mv.specs.Sums.{is_empty, no_sum, added, gap_of}
 use Rattle.store.specs.Store.{trajs, maps, vec, no_map}
 use Rattle.store.specs.Program.{Prog, write, cell, cell_if, when, each, ◌>>=◌, ◌>>◌}
-use Rattle.tile.specs.declared.Tile.{Tile}
+use Rattle.tile.specs.Geometry.{Geometry}
 use Rattle.tile.specs.Layout.{traj_at, map_at, on_step, near_col, same_rows, cells_of, there, moved}
 use Rattle.tile.specs.Owner.{own_block}
 use Rattle.tile.specs.Passes.{each_cell, each_sample, has_right, has_below}
@@ -34,7 +34,7 @@ is_no_map m = eq_z m.y (negsuc 127) && eq_z m.x (negsuc 127)
 unfoldable pub traj_in_range : Mv → Bool
 traj_in_range v = (is_empty v && eq_z v.x (pos 0)) || (leb (nat_abs v.y) 65535 && leb (nat_abs v.x) 65535)
 
-module _ (t : Tile) where
+module _ (t : Geometry) where
   -- the trajectories of slot n
   unfoldable pub empty_traj : ℕ → Prog
   empty_traj n = each_cell t (λ y x. write trajs (traj_at t n y x) empty)

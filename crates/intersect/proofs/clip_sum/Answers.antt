@@ -13,6 +13,10 @@ ways s =
 pub returns : goal.returns
 returns c =
     let (a, b, s, m, n) = ways (goal.at.returns c).Start in let g = c.args in
-    let e : c.iclip64to32.result ≡ clip_z (pos 0 -ℤ pos g.bound) (pos g.bound) (g.a +ℤ g.b) = simp back at c.iclip64to32.ensures in
+    let p : SFits w64 c.from.result = search rules in let q : SFits w64 c.from-2.result = search rules in let r : SFits w32 c.from-m.result = search rules in
+    let ea : c.from.result ≡ g.a = simp back at c.from.ensures in
+    let eb : c.from-2.result ≡ g.b = simp back at c.from-2.ensures in
+    let em : c.from-m.result ≡ pos g.bound = c.from-m.ensures in
+    let e : c.iclip64to32.result ≡ clip_z (pos 0 -ℤ pos g.bound) (pos g.bound) (g.a +ℤ g.b) = simp back at (rw (em, ea, eb) at c.iclip64to32.ensures) in
     let f : SFits w32 c.iclip64to32.result = search rules in
     simp back (e ∙ ap (λ (z : ℤ). clip_z z (pos g.bound) (g.a +ℤ g.b)) (zero_minus (pos g.bound)))

@@ -1,83 +1,80 @@
 -- `intersect::follow` meets its contract. Assumes nothing.
-use Rattle.std.proofs.Common.{rules, ◌≡◌, sym, ap, ◌∙◌, true, ◌+◌, ◌*◌, ◌/◌, ◌<◌, arith, pos, get_or, w32, SFits}
-use Rattle.intops.proofs.Signed.{back}
+use Rattle.std.proofs.Common.{◌≡◌, sym, ap, ◌∙◌, true, not, ◌+◌, ◌*◌, ◌/◌, ◌<◌, arith}
 use Rattle.levels.specs.declared.Mv.{Mv}
-use Rattle.store.specs.Store.{vec}
 use Rattle.tile.specs.Layout.{row_cells, map_at, moved}
 use Rattle.tile.specs.Owner.{own_block}
+use Rattle.tile.specs.Tiles.{geometry}
 use Rattle.tile.proofs.Places.{place_low, map_low, near_low}
-use Rattle.traj.specs.Traj.{leads}
-use Rattle.traj.proofs.Windows.{Leads, leads_near}
-use Rattle.intersect.proofs.Ways.{follow_none, follow_off, follow_on}
-use Rattle.intersect.proofs.follow.Goals.{After-leads, After-map_cell-m, After-map_in-at, After-moved_by-x1, After-moved_by-y1, After-own_block, Else-not-leads, Else-not-own_block}
+use Rattle.traj.specs.Traj.{is_no_map, leads}
+use Rattle.traj.proofs.Windows.{leads_near}
+use Rattle.intersect.specs.declared.Place.{Place}
+use Rattle.intersect.specs.Code.{map_in}
+use Rattle.intersect.proofs.Ways.{some_by, none_by, not_false, leads_none, follow_none, follow_off, follow_on}
+use Rattle.intersect.proofs.follow.Goals.{After-map_cell, After-map_in, After-own_block, Else-not-own_block, In-Some, In-Some-led_to}
 use Rattle.intersect.proofs.follow.Goals as goal
 
-own_is : (c : After-own_block) → let a = c.args in own_block a.t (a.h.x / a.t.block + a.k) ≡ c.own_block.result
-own_is c = rw (← c.requires.4) (sym c.own_block.ensures)
+own_is : (c : After-own_block) → let a = c.args in own_block (geometry a.t.now) (a.h.now.at.x / a.t.now.block + a.k) ≡ c.own_block.result
+own_is c = rw (← c.requires.block) (sym c.own_block.ensures)
 
-at_is : (c : After-map_in-at) → let a = c.args in c.map_in-at.result ≡ map_at a.t a.k a.h.a a.h.y a.h.x
-unfolding map_at
-at_is c = rw (← c.requires.3) c.map_in-at.ensures
-
-low : (c : After-map_in-at) → c.map_in-at.result < 21 * row_cells c.args.t
-low c = let a = c.args in rw (at_is c) (map_low a.t c.requires.0 a.k a.h.a a.h.y a.h.x c.requires.2 c.requires.1.a c.requires.1.x)
-
--- the map cell, as it is lent
-abbrev found : After-map_cell-m → Mv
-found c = let a = c.args in let i = c.map_in-at.result in vec (get_or a.map_y.now i (pos 0)) (get_or a.map_x.now i (pos 0))
-
-leads_is : (c : After-leads) → let a = c.args in leads a.t (found c.before) a.k a.h.y a.h.x a.h.y0 a.h.x0 ≡ c.leads.result
-leads_is c =
-    let a = c.args in
-    sym (c.leads.ensures ∙ ap (λ (m : Mv). leads a.t m a.k a.h.y a.h.x a.h.y0 a.h.x0) c.map_cell-m.ensures)
-
-mine : (c : Else-not-own_block) → let a = c.args in own_block a.t (a.h.x / a.t.block + a.k) ≡ true
+mine : (c : Else-not-own_block) → let a = c.args in own_block (geometry a.t.now) (a.h.now.at.x / a.t.now.block + a.k) ≡ true
 mine c = own_is c.before ∙ c.if-not-own_block.false
 
-yes : (c : Else-not-leads) → let a = c.args in leads a.t (found c.before.before) a.k a.h.y a.h.x a.h.y0 a.h.x0 ≡ true
-yes c = leads_is c.before ∙ c.if-not-leads.false
+at_is : (c : After-map_in) → let a = c.args in c.map_in.result ≡ map_at (geometry a.t.now) a.k a.h.now.a a.h.now.at.y a.h.now.at.x
+unfolding map_at
+at_is c = rw (← c.requires.row) c.map_in.ensures
 
-y1_is : (c : After-moved_by-y1) → c.moved_by-y1.result ≡ moved c.args.h.y (found c.before.before.before.before.before).y
-y1_is c =
-    let f : SFits w32 c.map_cell-m.result.y = search rules in
-    let e : c.moved_by-y1.result ≡ moved c.args.h.y c.map_cell-m.result.y = simp back at c.moved_by-y1.ensures in
-    e ∙ ap (λ (m : Mv). moved c.args.h.y m.y) c.map_cell-m.ensures
+-- the map cell is the one that is lent
+cell_is : (c : In-Some) → (not (is_no_map (map_in c.args.maps.now c.map_in.result)) ≡ true) × (map_in c.args.maps.now c.map_in.result ≡ c.in-Some.m)
+cell_is c = let v = map_in c.args.maps.now c.map_in.result in some_by (not (is_no_map v)) v c.in-Some.m (sym c.map_cell.ensures ∙ c.in-Some.is)
 
-x1_is : (c : After-moved_by-x1) → c.moved_by-x1.result ≡ moved c.args.h.x (found c.before.before.before.before.before.before).x
-x1_is c =
-    let f : SFits w32 c.map_cell-m.result.x = search rules in
-    let e : c.moved_by-x1.result ≡ moved c.args.h.x c.map_cell-m.result.x = simp back at c.moved_by-x1.ensures in
-    e ∙ ap (λ (m : Mv). moved c.args.h.x m.x) c.map_cell-m.ensures
+-- it leads to the place
+led_is : (c : In-Some-led_to) → let h = c.args.h.now in let m = c.in-Some.m in
+    (leads (geometry c.args.t.now) m c.args.k h.at.y h.at.x h.origin.y h.origin.x ≡ true) × (moved h.at.y m.y ≡ c.in-Some-led_to.first.y) × (moved h.at.x m.x ≡ c.in-Some-led_to.first.x)
+led_is c =
+    let h = c.args.h.now in let m = c.in-Some.m in let p : Place = record { y = moved h.at.y m.y; x = moved h.at.x m.x } in
+    let e = some_by (leads (geometry c.args.t.now) m c.args.k h.at.y h.at.x h.origin.y h.origin.x) p c.in-Some-led_to.first (sym c.led_to.ensures ∙ c.in-Some-led_to.is) in
+    (e.0, ap (λ (q : Place). q.y) e.1, ap (λ (q : Place). q.x) e.1)
 
-to : (c : Else-not-leads) → let a = c.args in Leads a.t a.k a.h.y a.h.x (moved a.h.y (found c.before.before).y) (moved a.h.x (found c.before.before).x)
-to c = let a = c.args in leads_near a.t c.requires.0 (found c.before.before) a.k a.h.y a.h.x a.h.y0 a.h.x0 (yes c)
+pub returns-then-not-own_block-clause-stored : goal.returns-then-not-own_block-clause-stored
+returns-then-not-own_block-clause-stored c =
+    let a = c.args in let h = a.h.now in
+    follow_none (geometry a.t.now) a.t.now.sound h.bound h.a h.b h.at.y h.at.x h.origin.y h.origin.x h.mv a.k a.trajectories.now a.maps.now
+    (own_is (goal.at.returns-then-not-own_block-clause-stored c).After-own_block ∙ c.if-not-own_block.true)
 
-pub returns-then-not-own_block : goal.returns-then-not-own_block
-returns-then-not-own_block c =
-    let a = c.args in
-    follow_none a.t c.requires.0 a.h.bound a.h.a a.h.b a.h.y a.h.x a.h.y0 a.h.x0 a.h.mv a.k a.traj_y.now a.traj_x.now a.map_y.now a.map_x.now
-    (own_is (goal.at.returns-then-not-own_block c).After-own_block ∙ c.if-not-own_block.true)
+pub map_in-requires : goal.map_in-requires
+map_in-requires c = let a = c.args in (c.requires.plane, c.requires.half.a, rw c.requires.row (place_low (geometry a.t.now) a.t.now.sound a.h.now.at.y a.h.now.at.x c.requires.half.x))
 
-pub map_in-at-requires : goal.map_in-at-requires
-map_in-at-requires c = let a = c.args in (c.requires.0, c.requires.2, c.requires.1.a, rw c.requires.3 (place_low a.t c.requires.0 a.h.y a.h.x c.requires.1.x))
+pub map_cell-requires : goal.map_cell-requires
+map_cell-requires c =
+    let a = c.args in let h = a.h.now in let t = geometry a.t.now in
+    let l : c.map_in.result < 21 * row_cells t = rw (at_is (goal.at.map_cell-requires c).After-map_in) (map_low t a.t.now.sound a.k h.a h.at.y h.at.x c.requires.plane c.requires.half.a c.requires.half.x) in
+    record { y = omega (arith, l, c.requires.maps.y); x = omega (arith, l, c.requires.maps.x) }
 
-pub map_cell-m-requires : goal.map_cell-m-requires
-map_cell-m-requires c = let h = c.requires.6 in (omega (arith, low c, h.y), omega (arith, low c, h.x))
+pub returns-in_default-clause-stored : goal.returns-in_default-clause-stored
+returns-in_default-clause-stored c =
+    let a = c.args in let h = a.h.now in let t = geometry a.t.now in let v = map_in a.maps.now c.map_in.result in
+    follow_off t a.t.now.sound h.bound h.a h.b h.at.y h.at.x h.origin.y h.origin.x h.mv a.k a.trajectories.now a.maps.now c.requires.half.a c.requires.plane c.requires.half.x (mine (goal.at.returns-in_default-clause-stored c).Else-not-own_block)
+    c.map_in.result (at_is (goal.at.returns-in_default-clause-stored c).After-map_in)
+    (leads_none t v a.k h.at.y h.at.x h.origin.y h.origin.x (not_false (is_no_map v) (none_by (not (is_no_map v)) v (sym c.map_cell.ensures ∙ c.in_default.is))))
 
-pub returns-then-not-leads : goal.returns-then-not-leads
-returns-then-not-leads c =
-    let a = c.args in
-    follow_off a.t c.requires.0 a.h.bound a.h.a a.h.b a.h.y a.h.x a.h.y0 a.h.x0 a.h.mv a.k a.traj_y.now a.traj_x.now a.map_y.now a.map_x.now c.requires.1.a c.requires.2 c.requires.1.x (mine (goal.at.returns-then-not-leads c).Else-not-own_block) _ (at_is (goal.at.returns-then-not-leads c).After-map_in-at)
-    (leads_is (goal.at.returns-then-not-leads c).After-leads ∙ c.if-not-leads.true)
+pub returns-in_default-led_to-clause-stored : goal.returns-in_default-led_to-clause-stored
+returns-in_default-led_to-clause-stored c =
+    let a = c.args in let h = a.h.now in let t = geometry a.t.now in let m = c.in-Some.m in
+    follow_off t a.t.now.sound h.bound h.a h.b h.at.y h.at.x h.origin.y h.origin.x h.mv a.k a.trajectories.now a.maps.now c.requires.half.a c.requires.plane c.requires.half.x (mine (goal.at.returns-in_default-led_to-clause-stored c).Else-not-own_block)
+    c.map_in.result (at_is (goal.at.returns-in_default-led_to-clause-stored c).After-map_in)
+    (ap (λ (v : Mv). leads t v a.k h.at.y h.at.x h.origin.y h.origin.x) (cell_is (goal.at.returns-in_default-led_to-clause-stored c).In-Some).1
+    ∙ none_by (leads t m a.k h.at.y h.at.x h.origin.y h.origin.x) (record { y = moved h.at.y m.y; x = moved h.at.x m.x }) (sym c.led_to.ensures ∙ c.in_default-led_to.is))
 
-pub extend-requires : goal.extend-requires
-extend-requires c =
-    let a = c.args in let m = to (goal.at.extend-requires c).Else-not-leads in
-    let n = near_low a.t c.requires.0 (moved a.h.y (found (goal.at.extend-requires c).After-map_cell-m).y) a.h.y m.rows in
-    (c.requires.0, c.requires.1.a, c.requires.1.b, rw (y1_is (goal.at.extend-requires c).After-moved_by-y1) (omega (arith, n.0, c.requires.1.y)), rw (x1_is (goal.at.extend-requires c).After-moved_by-x1, m.block) (mine (goal.at.extend-requires c).Else-not-own_block), c.requires.5, c.requires.6)
+pub extend-requires-clause-first : goal.extend-requires-clause-first
+extend-requires-clause-first c =
+    let a = c.args in let h = a.h.now in let t = geometry a.t.now in let k = a.t.now.sound in let m = c.in-Some.m in
+    let e = led_is (goal.at.extend-requires-clause-first c).In-Some-led_to in let w = leads_near t k m a.k h.at.y h.at.x h.origin.y h.origin.x e.0 in
+    record { row = rw (← e.1) (omega (arith, (near_low t k (moved h.at.y m.y) h.at.y w.rows).0, c.requires.half.y)); block = rw (← e.2, w.block) (mine (goal.at.extend-requires-clause-first c).Else-not-own_block) }
 
-pub returns : goal.returns
-returns c =
-    let a = c.args in
-    follow_on a.t c.requires.0 a.h.bound a.h.a a.h.b a.h.y a.h.x a.h.y0 a.h.x0 a.h.mv a.k a.traj_y.now a.traj_x.now a.map_y.now a.map_x.now c.requires.1.a c.requires.2 c.requires.1.x (mine (goal.at.returns c).Else-not-own_block) _ (at_is (goal.at.returns c).After-map_in-at)
-    (yes (goal.at.returns c).Else-not-leads) _ _ _ _ _ _ (y1_is (goal.at.returns c).After-moved_by-y1) (x1_is (goal.at.returns c).After-moved_by-x1) c.extend.ensures
+pub returns-clause-stored : goal.returns-clause-stored
+returns-clause-stored c =
+    let a = c.args in let h = a.h.now in let t = geometry a.t.now in let p = cell_is (goal.at.returns-clause-stored c).In-Some in let e = led_is (goal.at.returns-clause-stored c).In-Some-led_to in
+    follow_on t a.t.now.sound h.bound h.a h.b h.at.y h.at.x h.origin.y h.origin.x h.mv a.k a.trajectories.now a.maps.now c.requires.half.a c.requires.plane c.requires.half.x (mine (goal.at.returns-clause-stored c).Else-not-own_block)
+    c.map_in.result (at_is (goal.at.returns-clause-stored c).After-map_in)
+    (ap (λ (v : Mv). leads t v a.k h.at.y h.at.x h.origin.y h.origin.x) p.1 ∙ e.0) c.in-Some-led_to.first.y c.in-Some-led_to.first.x c.extend.new.trajectories c.extend.new.maps
+    (ap (λ (v : Mv). moved h.at.y v.y) p.1 ∙ e.1) (ap (λ (v : Mv). moved h.at.x v.x) p.1 ∙ e.2) c.extend.ensures.stored

@@ -1,52 +1,29 @@
 -- `intersect::follow_all` meets its contract. Assumes nothing.
-use Rattle.std.proofs.Common.{refl, ◌∙◌, ℕ, arith}
-use Rattle.loops.specs.Over.{span}
-use Rattle.loops.proofs.Turns.{turned, ended}
-use Rattle.store.specs.Store.{Store}
-use Rattle.store.specs.Program.{run}
-use Rattle.tile.specs.declared.Tile.{Tile}
+use Rattle.std.proofs.Common.{arith}
+use Rattle.store.proofs.Lent.{at_holds, at_again, at_done}
 use Rattle.tile.specs.Owner.{owns}
-use Rattle.intersect.specs.declared.Half.{Half}
+use Rattle.tile.specs.Tiles.{geometry}
+use Rattle.tile.proofs.Lent.{traj_held_after, map_held_after}
+use Rattle.traj.proofs.Lists.{both, all_lent}
 use Rattle.intersect.specs.Code.{followed}
 use Rattle.intersect.proofs.follow_all.Goals as goal
 
--- a plane
-abbrev plane : Tile → Half → ℕ → Store → Store
-plane t h k s = run (owns t) (followed t h k) s
-
-pub place_at-row-requires : goal.place_at-row-requires
-place_at-row-requires c = (c.requires.0, c.requires.1.x)
-
-pub in_blocks-col-requires : goal.in_blocks-col-requires
-in_blocks-col-requires c = c.requires.0
-
 pub loop-k-init : goal.loop-k-init
-loop-k-init c = (refl, refl, refl, refl, λ s. refl)
+loop-k-init c = let t = geometry c.args.t.now in at_holds all_lent (owns t) (followed t c.args.h.now) 0 3 _
 
-pub follow-requires : goal.follow-requires
-follow-requires c =
-    let l = c.loop-k.invariant in let h = c.requires.2 in let g = c.requires.3 in (
-      c.requires.0,
-      c.requires.1,
-      omega (arith, c.loop-k-test),
-      c.place_at-row.ensures,
-      c.in_blocks-col.ensures,
-      record { y = omega (arith, l.0, h.y); x = omega (arith, l.1, h.x) },
-      record { y = omega (arith, l.2, g.y); x = omega (arith, l.3, g.x) },
-    )
+pub follow-requires-clause-trajectories : goal.follow-requires-clause-trajectories
+follow-requires-clause-trajectories c = traj_held_after (geometry c.args.t.now) c.loop-k.invariant.like.trajs c.requires.trajectories
+
+pub follow-requires-clause-maps : goal.follow-requires-clause-maps
+follow-requires-clause-maps c = map_held_after (geometry c.args.t.now) c.loop-k.invariant.like.maps c.requires.maps
 
 pub loop-k-preserved : goal.loop-k-preserved
 loop-k-preserved c =
-    let f = c.follow in let l = c.loop-k in let a = c.args in (
-      f.auto.traj_y ∙ l.invariant.0,
-      f.auto.traj_x ∙ l.invariant.1,
-      f.auto.map_y ∙ l.invariant.2,
-      f.auto.map_x ∙ l.invariant.3,
-      λ s. turned (plane a.t a.h) 3 l.k _ _ _ c.loop-k-test.true (f.ensures s) (l.invariant.4 s),
-    )
+    let a = c.args in let t = geometry a.t.now in let l = c.loop-k in let e = c.follow.ensures in
+    at_again all_lent (owns t) (followed t a.h.now) 0 3 l.k (both l.trajectories l.maps) (both a.trajectories.now a.maps.now) (both c.follow.new.trajectories c.follow.new.maps) (omega (arith, c.loop-k-test)) l.invariant
+    (record { trajs = e.same_trajectories; maps = e.same_maps }) e.stored
 
-pub returns : goal.returns
-unfolding span
-returns c =
-    let a = c.args in
-    λ s. ended (plane a.t a.h) 3 c.loop-k.k _ _ c.loop-k-test.false (c.loop-k.invariant.4 s)
+pub returns-clause-stored : goal.returns-clause-stored
+returns-clause-stored c =
+    let a = c.args in let t = geometry a.t.now in let l = c.loop-k in
+    at_done all_lent (owns t) (followed t a.h.now) 0 3 l.k (both l.trajectories l.maps) (both a.trajectories.now a.maps.now) (omega (arith, c.loop-k-test.false)) l.invariant

@@ -1,47 +1,54 @@
 -- `traj::put_gaps_traj` meets its contract. Assumes nothing.
 use Rattle.std.proofs.Common.{◌+◌, arith}
-use Rattle.store.proofs.Lent.{two}
+use Rattle.store.proofs.Borrows.{same_pairs_after}
+use Rattle.tile.specs.Tiles.{geometry}
+use Rattle.tile.proofs.Lent.{traj_held_after}
 use Rattle.tile.proofs.Owner.{mine_low}
-use Rattle.traj.proofs.Rows.{traj_low_at}
+use Rattle.traj.proofs.Rows.{within_at}
 use Rattle.traj.proofs.Ways.{gaps_on}
 use Rattle.traj.proofs.put_gaps_traj.Goals as goal
 
 pub overflow_add-x : goal.overflow_add-x
-overflow_add-x c = let a = c.args in let k = c.requires.0 in omega (arith, mine_low a.t k a.x c.requires.1.here, k.stride_low)
+overflow_add-x c = let t = geometry c.args.t.now in let k = c.args.t.now.sound in omega (arith, mine_low t k c.args.x c.requires.gaps.here, k.stride_low)
 
 pub traj_in-requires : goal.traj_in-requires
-traj_in-requires c = let a = c.args in let k = c.requires.0 in let g = c.requires.1 in (k, c.requires.3, g.top, omega (arith, g.below), mine_low a.t k (a.x + 1) g.right)
+traj_in-requires c =
+    let t = geometry c.args.t.now in let k = c.args.t.now.sound in let g = c.requires.gaps in
+    record { slot = c.requires.slot; row = (g.top, omega (arith, g.below)); column = mine_low t k (c.args.x + 1) g.right }
 
-pub put-requires : goal.put-requires
-put-requires c =
-    let a = c.args in let k = c.requires.0 in let h = c.requires.2 in
-    let q = traj_low_at a.t k c.traj_in.result a.n a.y (a.x + 1) c.traj_in.ensures c.requires.3 (mine_low a.t k (a.x + 1) c.requires.1.right) in
-    (omega (arith, q, h.y), omega (arith, q, h.x))
+pub put_vector-requires : goal.put_vector-requires
+put_vector-requires c =
+    let a = c.args in let t = geometry a.t.now in let k = a.t.now.sound in
+    within_at t k c.traj_in.result a.n a.y (a.x + 1) c.traj_in.ensures c.requires.slot (mine_low t k (a.x + 1) c.requires.gaps.right) _ c.requires.held
 
 pub traj_in-requires-2 : goal.traj_in-requires-2
-traj_in-requires-2 c = let a = c.args in let k = c.requires.0 in let g = c.requires.1 in (k, c.requires.3, omega (arith, g.top), g.below, mine_low a.t k a.x g.here)
+traj_in-requires-2 c =
+    let t = geometry c.args.t.now in let k = c.args.t.now.sound in let g = c.requires.gaps in
+    record { slot = c.requires.slot; row = (omega (arith, g.top), g.below); column = mine_low t k c.args.x g.here }
 
-pub put-requires-2 : goal.put-requires-2
-put-requires-2 c =
-    let a = c.args in let k = c.requires.0 in let h = c.requires.2 in
-    let q = traj_low_at a.t k c.traj_in-2.result a.n (a.y + 1) a.x c.traj_in-2.ensures c.requires.3 (mine_low a.t k a.x c.requires.1.here) in
-    (omega (arith, q, h.y, c.put.auto), omega (arith, q, h.x, c.put.auto))
+pub put_vector-requires-2 : goal.put_vector-requires-2
+put_vector-requires-2 c =
+    let a = c.args in let t = geometry a.t.now in let k = a.t.now.sound in
+    within_at t k c.traj_in-2.result a.n (a.y + 1) a.x c.traj_in-2.ensures c.requires.slot (mine_low t k a.x c.requires.gaps.here) _
+    (traj_held_after t c.put_vector.ensures.same_borrow c.requires.held)
 
 pub overflow_add-x-2 : goal.overflow_add-x-2
-overflow_add-x-2 c = let a = c.args in let k = c.requires.0 in omega (arith, mine_low a.t k a.x c.requires.1.here, k.stride_low)
+overflow_add-x-2 c = let t = geometry c.args.t.now in let k = c.args.t.now.sound in omega (arith, mine_low t k c.args.x c.requires.gaps.here, k.stride_low)
 
 pub traj_in-requires-3 : goal.traj_in-requires-3
-traj_in-requires-3 c = let a = c.args in let k = c.requires.0 in let g = c.requires.1 in (k, c.requires.3, omega (arith, g.top), g.below, mine_low a.t k (a.x + 1) g.right)
+traj_in-requires-3 c =
+    let t = geometry c.args.t.now in let k = c.args.t.now.sound in let g = c.requires.gaps in
+    record { slot = c.requires.slot; row = (omega (arith, g.top), g.below); column = mine_low t k (c.args.x + 1) g.right }
 
-pub put-requires-3 : goal.put-requires-3
-put-requires-3 c =
-    let a = c.args in let k = c.requires.0 in let h = c.requires.2 in
-    let q = traj_low_at a.t k c.traj_in-3.result a.n (a.y + 1) (a.x + 1) c.traj_in-3.ensures c.requires.3 (mine_low a.t k (a.x + 1) c.requires.1.right) in
-    (omega (arith, q, h.y, c.put.auto, c.put-2.auto), omega (arith, q, h.x, c.put.auto, c.put-2.auto))
+pub put_vector-requires-3 : goal.put_vector-requires-3
+put_vector-requires-3 c =
+    let a = c.args in let t = geometry a.t.now in let k = a.t.now.sound in
+    within_at t k c.traj_in-3.result a.n (a.y + 1) (a.x + 1) c.traj_in-3.ensures c.requires.slot (mine_low t k (a.x + 1) c.requires.gaps.right) _
+    (traj_held_after t (same_pairs_after c.put_vector-2.ensures.same_borrow c.put_vector.ensures.same_borrow) c.requires.held)
 
-pub returns : goal.returns
-returns c =
+pub returns-clause-stored : goal.returns-clause-stored
+returns-clause-stored c =
     let a = c.args in
-    gaps_on a.t c.requires.0 a.n c.requires.3 a.y a.x c.requires.1 (two a.traj_y.now a.traj_x.now) a.v a.a a.b a.c
-    c.traj_in.result c.traj_in-2.result c.traj_in-3.result c.gap_of_two-beside.result c.gap_of_two-below.result c.gap_of_four-between.result _ _ _
-    c.traj_in.ensures c.traj_in-2.ensures c.traj_in-3.ensures c.gap_of_two-beside.ensures c.gap_of_two-below.ensures c.gap_of_four-between.ensures c.put.ensures c.put-2.ensures c.put-3.ensures
+    gaps_on (geometry a.t.now) a.t.now.sound a.n c.requires.slot a.y a.x c.requires.gaps a.trajectories.now a.v a.a a.b a.c
+    c.traj_in.result c.traj_in-2.result c.traj_in-3.result c.gap_of_two-beside.result c.gap_of_two-below.result c.gap_of_four-between.result c.put_vector.new.self c.put_vector-2.new.self c.put_vector-3.new.self
+    c.traj_in.ensures c.traj_in-2.ensures c.traj_in-3.ensures c.gap_of_two-beside.ensures c.gap_of_two-below.ensures c.gap_of_four-between.ensures c.put_vector.ensures.stored c.put_vector-2.ensures.stored c.put_vector-3.ensures.stored

@@ -1,6 +1,7 @@
 -- `traj::row_at` meets its contract. Assumes nothing.
+use Rattle.tile.specs.Tiles.{geometry}
 use Rattle.traj.proofs.Rows.{row_is}
 use Rattle.traj.proofs.row_at.Goals as goal
 
 pub returns : goal.returns
-returns c = let a = c.args in row_is a.t c.requires.0 a.p a.y c.requires.2 c.requires.3
+returns c = let a = c.args in row_is (geometry a.t.now) a.t.now.sound a.p a.y c.requires.row.0 c.requires.row.1
