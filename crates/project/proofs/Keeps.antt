@@ -3,11 +3,11 @@ use Rattle.std.proofs.Common.{Bool, List, ℕ, arith, ℤ}
 use Rattle.levels.specs.declared.Mv.{Mv}
 use Rattle.entry.specs.declared.Source.{Source}
 use Rattle.store.proofs.Keeps.{Keeps}
-use Rattle.tile.specs.declared.Tile.{Tile}
+use Rattle.tile.specs.Geometry.{Geometry}
 use Rattle.traj.proofs.Range.{InRange, clipped_in, keeps_enter_end, keeps_check_traj_intersect}
 use Rattle.project.specs.Project.{to_source, to_reference, put_trajs, put_mv, project_mv, sample, project_source}
 
-module _ (t : Tile) where
+module _ (t : Geometry) where
   keeps_put_trajs : (s : Source) (b : ℕ) (v : Mv) (y x y₁ x₁ : ℕ) → Keeps InRange (put_trajs t s b v y x y₁ x₁)
   unfolding put_trajs
   keeps_put_trajs s b v y x y₁ x₁ =

@@ -6,7 +6,7 @@ use Rattle.levels.specs.declared.Mv.{Mv}
 use Rattle.loops.proofs.Same.{turn_below}
 use Rattle.entry.specs.declared.Source.{Source}
 use Rattle.store.proofs.Owned.{Owned}
-use Rattle.tile.specs.declared.Tile.{Tile}
+use Rattle.tile.specs.Geometry.{Geometry}
 use Rattle.tile.specs.Layout.{on_step, block_start, same_rows, cells_of, there, moved}
 use Rattle.tile.specs.Owner.{own_block, owns}
 use Rattle.tile.specs.Sound.{Sound}
@@ -17,7 +17,7 @@ use Rattle.project.specs.Project.{saved_at, saved_ref, saved_mv, ref2idx, to_sou
 use Rattle.project.specs.Tested.{all_below, block_fine, row_fine}
 use Rattle.project.proofs.Tested.{all_below_lem, fine_low, SlotsLow}
 
-module _ (t : Tile) (k : Sound t) where
+module _ (t : Geometry) (k : Sound t) where
   -- the source is at most one block to either side of where it lands
   source_near : (x x₁ : ℕ) → near_source t x x₁ ≡ true → Near t x₁ x
   unfolding near_source block_start

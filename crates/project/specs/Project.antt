@@ -11,7 +11,7 @@ use Rattle.mv.specs.Projection.{scale_mv}
 use Rattle.entry.specs.declared.Source.{Source}
 use Rattle.store.specs.Store.{field_mvs, field_refs, trajs, maps, vec}
 use Rattle.store.specs.Program.{Prog, write, cell, when, each_by, ◌>>=◌, ◌>>◌}
-use Rattle.tile.specs.declared.Tile.{Tile}
+use Rattle.tile.specs.Geometry.{Geometry}
 use Rattle.tile.specs.Layout.{field_at, traj_at, map_at, on_step, block_start, same_rows, cells_of, there, moved}
 use Rattle.field.specs.Field.{put}
 use Rattle.traj.specs.Traj.{clipped, turned, enter_end, check_traj_intersect}
@@ -19,7 +19,7 @@ use Rattle.traj.specs.Traj.{clipped, turned, enter_end, check_traj_intersect}
 -- ---- a saved block: "Six bytes: y, x of vector 0, y, x of vector 1, reference 0, reference 1, all signed"
 
 -- "One lent buffer holds seven planes, H × stride blocks each": where the block of a slot's plane at (y, x) begins
-unfoldable pub saved_at : Tile → ℕ → ℕ → ℕ → ℕ
+unfoldable pub saved_at : Geometry → ℕ → ℕ → ℕ → ℕ
 saved_at t slot y x = 6 * ((slot * t.high + y) * t.stride + x)
 
 -- its reference and its vector in a direction
@@ -54,7 +54,7 @@ takes s b old old_ref =
     is_empty old
     || (not (eq_z s.tgt (negsuc 0)) && eq_z (ref2idx s b) s.tgt && not (eqb (nat_abs old_ref.y) (nat_abs (ref2ref s b))))
 
-module _ (t : Tile) where
+module _ (t : Geometry) where
   -- column x₁ lies in the window of column x's block, not cut at the frame
   unfoldable pub near_source : ℕ → ℕ → Bool
   near_source x x₁ = leb (block_start t x - t.edge) x₁ && ltb x₁ (block_start t x + t.block + t.edge)

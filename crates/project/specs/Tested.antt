@@ -5,7 +5,7 @@ use Rattle.intops.specs.Choice.{eq_z}
 use Rattle.levels.specs.declared.QMv.{QMv}
 use Rattle.mv.specs.Packing.{is_mark_byte}
 use Rattle.entry.specs.declared.Source.{Source}
-use Rattle.tile.specs.declared.Tile.{Tile}
+use Rattle.tile.specs.Geometry.{Geometry}
 use Rattle.project.specs.Project.{saved_at, saved_ref, saved_mv}
 
 -- p holds of 0 .. n - 1
@@ -41,7 +41,7 @@ block_fine r q =
     || (within (pos 0) (pos 6) r && not ((is_mark_byte q.y || is_mark_byte q.x) && not (is_mark_byte q.y && is_mark_byte q.x)))
 
 -- "a sampled block of the row (rows and columns at the step, all columns of W, plane present, source not skipped, its direction)"
-unfoldable pub row_fine : Tile → List ℤ → Source → Bool
+unfoldable pub row_fine : Geometry → List ℤ → Source → Bool
 row_fine t planes s =
     all_below ((t.bottom - t.top + (t.step - 1)) / t.step) (λ j.
     all_below ((t.wide + (t.step - 1)) / t.step) (λ i.

@@ -1,139 +1,132 @@
 // A sampled block: trajectories through it go on, and its vector is projected.
 #![tactic(auto)]
 
-ghost use Rattle.std.specs.Prelude.{◌≡◌, true, false, not, ◌&&◌, List, ℕ, ◌-◌, ◌*◌, ◌≤◌, ◌<◌, ℤ, pos, negsuc, nat_abs, length};
-ghost use Rattle.intops.specs.Bounds.{Within};
+ghost use Rattle.std.specs.Prelude.{◌≡◌, true, false, not, ◌&&◌, List, ◌-◌, ◌*◌, ◌≤◌, ◌<◌, ℤ, negsuc, nat_abs, length, drop};
 ghost use Rattle.intops.specs.Choice.{eq_z};
 ghost use Rattle.mv.specs.Projection.{past_range};
-ghost use Rattle.entry.specs.declared.Source.{Source};
-ghost use Rattle.store.specs.Store.{Store, pack, with_traj};
+ghost use Rattle.store.specs.Lent.{IsSamePairs, stored_trajs};
+ghost use Rattle.store.specs.Store.{Store};
 ghost use Rattle.store.specs.Program.{run, when};
+ghost use Rattle.tile.specs.Lent.{IsTrajHeld, IsMapHeld};
 ghost use Rattle.tile.specs.Owner.{owns};
-ghost use Rattle.tile.specs.Sound.{Sound, FieldHeld, TrajHeld, MapHeld};
+ghost use Rattle.tile.specs.Tiles.{geometry};
+ghost use Rattle.field.specs.Lent.{IsHeld, IsSameField, store_of};
 ghost use Rattle.traj.specs.Traj.{check_traj_intersect};
-ghost use Rattle.project.specs.Project.{saved_ref, saved_mv, project_mv};
+ghost use Rattle.project.specs.Project.{saved_at, saved_ref, saved_mv, ref2idx, project_mv};
 ghost use Rattle.project.specs.Project as spec;
-ghost use Rattle.project.specs.Tested.{within, block_fine};
+ghost use Rattle.project.specs.Tested.{block_fine};
 ghost use Rattle.saved.specs.Code.{part_at};
-ghost use Rattle.sample.specs.Code.{Numbers, Lent, Ranges};
+ghost use Rattle.sample.specs.Code.{IsReadable};
 
+use entry::Source;
+use field::Field;
+use intersect::Place;
+use landing::Entry;
 use levels::Mv;
+use store::Pairs;
 use tile::Tile;
 
 // Trajectories through the block go on, where trajectories are on and the reference is in a slot.
 fn intersect_at(
-    traj_y: &mut [i32],
-    traj_x: &mut [i32],
-    map_y: &mut [i8],
-    map_x: &mut [i8],
-    t: Tile,
+    trajectories: &mut Pairs<'_, i32>,
+    maps: &mut Pairs<'_, i8>,
+    t: &Tile,
     traj: bool,
-    n: usize,
-    idx: i8,
-    y: usize,
-    x: usize,
+    e: &Entry<'_>,
+    at: Place,
     v: Mv,
 )
-    requires sound { Sound t × (n < 7) × (within (negsuc 0) (pos 6) idx ≡ true) × (y < t.bottom) × (x < t.wide) × (past_range v ≡ false) }
-    requires traj_held { TrajHeld t traj_y.old traj_x.old × MapHeld t map_y.old map_x.old }
-    ensures { (u : Store) → with_traj u traj_y.new traj_x.new map_y.new map_x.new
-        ≡ run (owns t) (when (traj && not (eq_z idx (negsuc 0))) (check_traj_intersect t n (nat_abs idx) y x v)) (with_traj u traj_y.old traj_x.old map_y.old map_x.old) }
+    requires row { at.y < t.now.bottom }
+    requires column { at.x < t.now.wide }
+    requires vector { past_range v ≡ false }
+    requires trajectories { IsTrajHeld (geometry t.now) trajectories.old }
+    requires maps { IsMapHeld (geometry t.now) maps.old }
+    ensures same_trajectories { IsSamePairs trajectories.new trajectories.old }
+    ensures same_maps { IsSamePairs maps.new maps.old }
+    ensures stored { (u : Store) → stored_trajs u trajectories.new maps.new
+        ≡ run (owns (geometry t.now)) (when (traj && not (eq_z (ref2idx e.now.source.now e.now.reference) (negsuc 0))) (check_traj_intersect (geometry t.now) e.now.source.now.reference.0 (nat_abs (ref2idx e.now.source.now e.now.reference)) at.y at.x v))
+        (stored_trajs u trajectories.old maps.old) }
 {
+    // Tested here and not in `sample`: after a branch the check no longer knows the entry that was lent in it.
     if !traj {
         return;
     }
-    if idx < 0 {
-        return;
-    }
-    intersect::check_traj_intersect(traj_y, traj_x, map_y, map_x, t, n, idx as usize, y, x, v);
-}
-
-// A vector saved at (y, x) goes where it leads back to.
-fn project_mv(
-    field_y: &mut [i32],
-    field_x: &mut [i32],
-    field_ref: &mut [u8],
-    traj_y: &mut [i32],
-    traj_x: &mut [i32],
-    map_y: &mut [i8],
-    map_x: &mut [i8],
-    t: Tile,
-    traj: bool,
-    n: usize,
-    tgt: i8,
-    dir: usize,
-    d: i8,
-    idx: i8,
-    sf0: i32,
-    sf1: i32,
-    y: usize,
-    x: usize,
-    v: Mv,
-)
-    requires sound { Sound t × (n < 7) × (nat_abs idx < 7) × (t.top ≤ y) × (y < t.bottom) × (x < t.wide) × (past_range v ≡ false) × Within 507904 sf0 × Within 507904 sf1 }
-    requires field_held { FieldHeld t field_y.old field_x.old field_ref.old × TrajHeld t traj_y.old traj_x.old × MapHeld t map_y.old map_x.old }
-    ensures { (s : Source) (b : ℕ) → Numbers s b n tgt dir d idx sf0 sf1
-        → pack field_y.new field_x.new field_ref.new traj_y.new traj_x.new map_y.new map_x.new
-        ≡ run (owns t) (project_mv t traj s b v y x)
-        (pack field_y.old field_x.old field_ref.old traj_y.old traj_x.old map_y.old map_x.old) }
-{
-    if !landing::right_side(d, dir) {
-        return;
-    }
-    let w = landing::scaled(v, -sf0);
-    if !landing::lands(t, y, x, w) {
-        return;
-    }
-    let y1 = landing::back_at(t, y, w.y);
-    let x1 = landing::back_at(t, x, w.x);
-    put::put_mv(
-        field_y, field_x, field_ref, traj_y, traj_x, map_y, map_x, t, traj, n, tgt, idx, d, sf1, y,
-        x, y1, x1, v, w,
-    );
-}
-
-// A sampled block.
-pub fn sample(
-    field_y: &mut [i32],
-    field_x: &mut [i32],
-    field_ref: &mut [u8],
-    traj_y: &mut [i32],
-    traj_x: &mut [i32],
-    map_y: &mut [i8],
-    map_x: &mut [i8],
-    part: &[i8],
-    t: Tile,
-    traj: bool,
-    n: usize,
-    tgt: i8,
-    dir: usize,
-    ref2ref: &[i8; 7],
-    ref2idx: &[i8; 7],
-    ref2sf0: &[i32; 7],
-    ref2sf1: &[i32; 7],
-    y: usize,
-    x: usize,
-)
-    requires sound { Sound t × (n < 7) × (dir < 2) × (t.top ≤ y) × (y < t.bottom) × (x < t.wide) × (6 * ((t.bottom - t.top) * t.stride) ≤ length part.now) × Ranges ref2idx.now ref2sf0.now ref2sf1.now }
-    requires field_held { FieldHeld t field_y.old field_x.old field_ref.old × TrajHeld t traj_y.old traj_x.old × MapHeld t map_y.old map_x.old }
-    requires dir_value { block_fine (saved_ref part.now (part_at t y x) dir) (saved_mv part.now (part_at t y x) dir) ≡ true }
-    ensures { (planes : List ℤ) (s : Source) → Lent t planes s n tgt dir part.now ref2ref.now ref2idx.now ref2sf0.now ref2sf1.now
-        → pack field_y.new field_x.new field_ref.new traj_y.new traj_x.new map_y.new map_x.new
-        ≡ run (owns t) (spec.sample t traj planes s y x)
-        (pack field_y.old field_x.old field_ref.old traj_y.old traj_x.old map_y.old map_x.old) }
-{
-    let at = saved::saved_at(t, y, x);
-    let k = saved::block_at(part, at, dir);
-    let saved::Saved::Block(b, v) = k else {
+    let Some(m) = e.slot() else {
         return;
     };
-    let d = ref2ref[b];
-    let idx = ref2idx[b];
-    let sf0 = ref2sf0[b];
-    let sf1 = ref2sf1[b];
-    intersect_at(traj_y, traj_x, map_y, map_x, t, traj, n, idx, y, x, v);
-    project_mv(
-        field_y, field_x, field_ref, traj_y, traj_x, map_y, map_x, t, traj, n, tgt, dir, d, idx,
-        sf0, sf1, y, x, v,
-    );
+    let n = e.source.reference.index();
+    intersect::check_traj_intersect(trajectories, maps, t, n, m, at, v);
+}
+
+// A vector saved at `from` goes where it leads back to.
+fn project_mv(
+    field: &mut Field<'_>,
+    trajectories: &mut Pairs<'_, i32>,
+    maps: &mut Pairs<'_, i8>,
+    t: &Tile,
+    traj: bool,
+    e: &Entry<'_>,
+    from: Place,
+    v: Mv,
+)
+    requires row { (t.now.top ≤ from.y) × (from.y < t.now.bottom) }
+    requires column { from.x < t.now.wide }
+    requires vector { past_range v ≡ false }
+    requires field { IsHeld (geometry t.now) field.old }
+    requires trajectories { IsTrajHeld (geometry t.now) trajectories.old }
+    requires maps { IsMapHeld (geometry t.now) maps.old }
+    ensures same_field { IsSameField field.new field.old }
+    ensures same_trajectories { IsSamePairs trajectories.new trajectories.old }
+    ensures same_maps { IsSamePairs maps.new maps.old }
+    ensures stored { store_of field.new trajectories.new maps.new
+        ≡ run (owns (geometry t.now)) (project_mv (geometry t.now) traj e.now.source.now e.now.reference v from.y from.x)
+        (store_of field.old trajectories.old maps.old) }
+{
+    if !e.right_side() {
+        return;
+    }
+    let Some(to) = landing::landing(t, from, e.to_source(v)) else {
+        return;
+    };
+    put::put_mv(field, trajectories, maps, t, traj, e, from, to, v);
+}
+
+/// A sampled block of source `s` at `at`. `part` is the plane of the source's slot from the tile's
+/// first row on.
+pub fn sample(
+    field: &mut Field<'_>,
+    trajectories: &mut Pairs<'_, i32>,
+    maps: &mut Pairs<'_, i8>,
+    part: &[i8],
+    t: &Tile,
+    traj: bool,
+    s: &Source,
+    at: Place,
+)
+    requires source { IsReadable s.now }
+    requires long { 6 * ((t.now.bottom - t.now.top) * t.now.stride) ≤ length part.now }
+    requires row { (t.now.top ≤ at.y) × (at.y < t.now.bottom) }
+    requires column { at.x < t.now.wide }
+    requires fine { block_fine (saved_ref part.now (part_at (geometry t.now) at.y at.x) s.now.dir) (saved_mv part.now (part_at (geometry t.now) at.y at.x) s.now.dir) ≡ true }
+    requires field { IsHeld (geometry t.now) field.old }
+    requires trajectories { IsTrajHeld (geometry t.now) trajectories.old }
+    requires maps { IsMapHeld (geometry t.now) maps.old }
+    ensures same_field { IsSameField field.new field.old }
+    ensures same_trajectories { IsSamePairs trajectories.new trajectories.old }
+    ensures same_maps { IsSamePairs maps.new maps.old }
+    ensures stored { (planes : List ℤ) → drop (saved_at (geometry t.now) s.now.reference.0 t.now.top 0) planes ≡ part.now
+        → store_of field.new trajectories.new maps.new
+        ≡ run (owns (geometry t.now)) (spec.sample (geometry t.now) traj planes s.now at.y at.x)
+        (store_of field.old trajectories.old maps.old) }
+{
+    let i = saved::saved_at(t, at.y, at.x);
+    let Some(block) = saved::block_at(part, i, usize::from(s.dir)) else {
+        return;
+    };
+    let e = Entry {
+        source: s,
+        reference: block.reference,
+    };
+    intersect_at(trajectories, maps, t, traj, &e, at, block.mv);
+    project_mv(field, trajectories, maps, t, traj, &e, at, block.mv);
 }

@@ -1,7 +1,6 @@
 -- What a saved block says that test 12 lets through. Assumes nothing.
-use Rattle.std.proofs.Common.{◌≡◌, refl, sym, ap, ◌∙◌, Bool, true, false, not, cond, ◌&&◌, ◌||◌, true≢false, ℕ, ◌<◌, arith, ne_eqb, le-ltb, ℤ, pos, negsuc, nat_abs, w8, SFits}
+use Rattle.std.proofs.Common.{◌≡◌, refl, sym, ap, ◌∙◌, Bool, true, false, not, cond, ◌&&◌, ◌||◌, true≢false, ℕ, ◌<◌, arith, ne_eqb, le-ltb, ℤ, pos, negsuc, nat_abs, w8, SFits, Option, None, Some}
 use lib.Signed.{lt_z}
-use denote.Enum.Declared.{tag_of}
 use Rattle.intops.specs.Choice.{eq_z, with_sign}
 use Rattle.intops.proofs.Signed.{abs_sign}
 use Rattle.intops.proofs.Tests.{and_both}
@@ -12,12 +11,13 @@ use Rattle.mv.specs.Sums.{is_empty}
 use Rattle.mv.specs.Packing.{is_mark_byte, unpack_mag, unpacked}
 use Rattle.mv.specs.Projection.{past_range}
 use Rattle.mv.proofs.Packing.{least, not_mark}
-use Rattle.saved.specs.declared.Saved.{Saved}
-use Rattle.saved.specs.declared.Saved.TheVariants.{Nothing, Block}
+use Rattle.saved.specs.declared.Block.{Block}
 use Rattle.project.specs.Tested.{within, block_fine}
-use Rattle.saved.specs.Code.{saved_of, Valid}
-use Rattle.saved.specs.contracts.Saved.{the_type}
+use Rattle.saved.specs.Code.{saved_of, IsInRange}
 use Rattle.project.proofs.Tested.{within_bounds, fine_low}
+
+abbrev block : ℕ → Mv → Block
+block b v = record { reference = b; mv = v }
 
 -- a byte that is not the mark's, unpacked
 abbrev unpacked_byte : ℤ → ℤ
@@ -60,19 +60,19 @@ module _ (r : ℤ) (q : QMv) (h : block_fine r q ≡ true) where
   both_marks : lt_z r (pos 0) ≡ false → is_mark_byte q.y ≡ is_mark_byte q.x
   both_marks l = same_marks (is_mark_byte q.y) (is_mark_byte q.x) (rest (not_none r l)).1
 
-  pub no_reference : lt_z r (pos 0) ≡ true → Nothing ≡ saved_of r q
+  pub no_reference : lt_z r (pos 0) ≡ true → None ≡ saved_of r q
   no_reference l = rw (none l)
 
-  pub no_vector : lt_z r (pos 0) ≡ false → is_mark_byte q.y ≡ true → Nothing ≡ saved_of r q
+  pub no_vector : lt_z r (pos 0) ≡ false → is_mark_byte q.y ≡ true → None ≡ saved_of r q
   no_vector l m = rw (not_none r l, m, sym (both_marks l) ∙ m)
 
   pub x_too : lt_z r (pos 0) ≡ false → is_mark_byte q.y ≡ false → is_mark_byte q.x ≡ false
   x_too l m = sym (both_marks l) ∙ m
 
-  pub has_both : lt_z r (pos 0) ≡ false → is_mark_byte q.y ≡ false → SFits w8 q.y → Block (nat_abs r) (vec (unpacked_byte q.y) (unpacked_byte q.x)) ≡ saved_of r q
+  pub has_both : lt_z r (pos 0) ≡ false → is_mark_byte q.y ≡ false → SFits w8 q.y → Some (block (nat_abs r) (vec (unpacked_byte q.y) (unpacked_byte q.x))) ≡ saved_of r q
   has_both l m f = rw (not_none r l, m, x_too l m) (rw (not_empty (unpacked_byte q.y) (byte_low q.y f m)))
 
-  pub has_range : lt_z r (pos 0) ≡ false → is_mark_byte q.y ≡ false → SFits w8 q.y → SFits w8 q.x → Valid (Block (nat_abs r) (vec (unpacked_byte q.y) (unpacked_byte q.x)))
+  pub has_range : lt_z r (pos 0) ≡ false → is_mark_byte q.y ≡ false → SFits w8 q.y → SFits w8 q.x → IsInRange (Some (block (nat_abs r) (vec (unpacked_byte q.y) (unpacked_byte q.x))))
   unfolding past_range
   has_range l m f g =
       let a : nat_abs (unpacked_byte q.y) < 2048 = byte_low q.y f m in
@@ -81,39 +81,24 @@ module _ (r : ℤ) (q : QMv) (h : block_fine r q ≡ true) where
 
 -- ---- what the code finds, and what the definition goes on with
 
-pub none_is : (k : Saved) → tag_of the_type k ≡ 0 → k ≡ Nothing
-none_is Nothing e = refl
-none_is (Block b v) e = absurd (omega arith)
-
-pub valid_at : (k : Saved) (b : ℕ) (v : Mv) → k ≡ Block b v → Valid k → (b < 7) × (past_range v ≡ false)
-valid_at k b v e h = rw e at h
-
-abbrev some : Saved → Bool
-some Nothing = false
-some (Block b v) = true
-
-abbrev ref_of : Saved → ℕ
-ref_of Nothing = 0
-ref_of (Block b v) = b
-
-abbrev mv_of : Saved → Mv
-mv_of Nothing = vec (pos 0) (pos 0)
-mv_of (Block b v) = v
+abbrev some : Option Block → Bool
+some None = false
+some (Some b) = true
 
 module _ (r : ℤ) (q : QMv) where
   abbrev pub read : Bool
   read = not (eq_z r (negsuc 0)) && not (is_empty (unpacked q).vector)
 
-  pub none_read : saved_of r q ≡ Nothing → read ≡ false
+  pub none_read : saved_of r q ≡ None → read ≡ false
   none_read h = go read refl h
     where
-      go : (b : Bool) → read ≡ b → cond b (Block (nat_abs r) (unpacked q).vector) Nothing ≡ Nothing → b ≡ false
+      go : (b : Bool) → read ≡ b → cond b (Some (block (nat_abs r) (unpacked q).vector)) None ≡ None → b ≡ false
       go true e k = ap some k
       go false e k = refl
 
-  pub block_read : (b : ℕ) (v : Mv) → saved_of r q ≡ Block b v → (read ≡ true) × (nat_abs r ≡ b) × ((unpacked q).vector ≡ v)
-  block_read b v h = go read refl h
+  pub block_read : (b : Block) → saved_of r q ≡ Some b → (read ≡ true) × (nat_abs r ≡ b.reference) × ((unpacked q).vector ≡ b.mv)
+  block_read b h = go read refl h
     where
-      go : (c : Bool) → read ≡ c → cond c (Block (nat_abs r) (unpacked q).vector) Nothing ≡ Block b v → (c ≡ true) × (nat_abs r ≡ b) × ((unpacked q).vector ≡ v)
-      go true e k = (refl, ap ref_of k, ap mv_of k)
+      go : (c : Bool) → read ≡ c → cond c (Some (block (nat_abs r) (unpacked q).vector)) None ≡ Some b → (c ≡ true) × (nat_abs r ≡ b.reference) × ((unpacked q).vector ≡ b.mv)
+      go true e k = (refl, cc, cc)
       go false e k = absurd (true≢false (sym (ap some k)))

@@ -2,7 +2,7 @@
 use Rattle.std.proofs.Common.{◌≡◌, sym, ap, ◌∙◌, List, ℕ, ◌+◌, ◌-◌, ◌*◌, ◌≤◌, ◌<◌, add-mul, mul-le-mul_right, mul_assoc, arith, ℤ, pos, length, get_or, take, drop, length-drop, take_all, get_or-drop}
 use Rattle.std.proofs.Math.Arith.{digits_lt}
 use Rattle.levels.specs.declared.QMv.{QMv}
-use Rattle.tile.specs.declared.Tile.{Tile}
+use Rattle.tile.specs.Geometry.{Geometry}
 use Rattle.tile.specs.Sound.{Sound}
 use Rattle.project.specs.Project.{saved_at, saved_ref, saved_mv}
 use Rattle.saved.specs.Code.{part_at}
@@ -11,7 +11,7 @@ use Rattle.saved.specs.Code.{part_at}
 pub rest : (i : ℕ) (l : List ℤ) → take (length l - i) (drop i l) ≡ drop i l
 rest i l = take_all (length l - i) (drop i l) (omega (arith, length-drop i l))
 
-module _ (t : Tile) where
+module _ (t : Geometry) where
   -- the part lies in the planes
   pub rows_in : Sound t → (n : ℕ) → n < 7 → saved_at t n t.top 0 + 6 * ((t.bottom - t.top) * t.stride) ≤ 6 * (7 * (t.high * t.stride))
   unfolding saved_at

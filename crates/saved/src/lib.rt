@@ -2,52 +2,63 @@
 #![tactic(auto)]
 
 ghost use Rattle.std.specs.Prelude.{◌≡◌, true, ◌+◌, ◌≤◌, ◌<◌, length};
-ghost use Rattle.tile.specs.Sound.{Sound};
+ghost use Rattle.tile.specs.Tiles.{geometry};
 ghost use Rattle.project.specs.Project.{saved_at, saved_ref, saved_mv};
 ghost use Rattle.project.specs.Tested.{block_fine};
-ghost use Rattle.saved.specs.Code.{part_at, saved_of, Valid};
+ghost use Rattle.saved.specs.Code.{part_at, saved_of, IsInRange};
 
 use levels::Mv;
 use tile::Tile;
 
-// A saved block in one direction: its reference and its vector, where it has both.
+/// A saved block in one direction, where it has a reference and a vector there.
 #[derive(Clone, Copy)]
-pub enum Saved {
-    Nothing,
-    Block(usize, Mv),
+pub struct Block {
+    /// The saved reference, 0 to 6: a place in the lists of a source.
+    pub reference: usize,
+    /// Its vector, of components within ±65,535.
+    pub mv: Mv,
 }
 
-// The block whose six bytes begin at `at`.
-pub fn block_at(part: &[i8], at: usize, dir: usize) -> Saved
-    requires { (at + 6 ≤ length part.now) × (dir < 2) × (block_fine (saved_ref part.now at dir) (saved_mv part.now at dir) ≡ true) }
-    ensures { (result ≡ saved_of (saved_ref part.now at dir) (saved_mv part.now at dir)) × Valid result }
+/// The block whose six bytes begin at `at`.
+pub fn block_at(part: &[i8], at: usize, dir: usize) -> Option<Block>
+    requires inside { at + 6 ≤ length part.now }
+    requires direction { dir < 2 }
+    requires fine { block_fine (saved_ref part.now at dir) (saved_mv part.now at dir) ≡ true }
+    ensures block { result ≡ saved_of (saved_ref part.now at dir) (saved_mv part.now at dir) }
+    ensures in_range { IsInRange result }
 {
-    let r = part[at + 4 + dir];
-    if r < 0 {
-        return Saved::Nothing;
+    let reference = part[at + 4 + dir];
+    if reference < 0 {
+        return None;
     }
     let y = part[at + 2 * dir];
     if y == -128 {
-        return Saved::Nothing;
+        return None;
     }
     let x = part[at + 2 * dir + 1];
-    let vy = mv::dequantize_mv_comp(y as i32);
-    let vx = mv::dequantize_mv_comp(x as i32);
-    Saved::Block(r as usize, Mv { y: vy, x: vx })
+    let vy = mv::dequantize_mv_comp(i32::from(y));
+    let vx = mv::dequantize_mv_comp(i32::from(x));
+    Some(Block {
+        reference: reference as usize,
+        mv: Mv { y: vy, x: vx },
+    })
 }
 
-// Where the tile's rows begin in slot n's plane.
-pub fn rows_at(t: Tile, n: usize) -> usize
-    requires { Sound t × (n < 7) }
-    ensures { result ≡ saved_at t n t.top 0 }
+/// Where the tile's rows begin in the plane of slot `n`.
+#[tactic(auto, unfolding(project::specs::Project::saved_at))]
+pub fn rows_at(t: &Tile, n: usize) -> usize
+    requires { n < 7 }
+    ensures { result ≡ saved_at (geometry t.now) n t.now.top 0 }
 {
     6 * ((n * t.high + t.top) * t.stride)
 }
 
-// Where the six bytes of a block begin, from the tile's first row.
-pub fn saved_at(t: Tile, y: usize, x: usize) -> usize
-    requires { Sound t × (t.top ≤ y) × (y < t.bottom) × (x < t.wide) }
-    ensures { result ≡ part_at t y x }
+/// Where the six bytes of a block begin, from the tile's first row.
+#[tactic(auto, unfolding(crate::specs::Code::part_at))]
+pub fn saved_at(t: &Tile, y: usize, x: usize) -> usize
+    requires row { (t.now.top ≤ y) × (y < t.now.bottom) }
+    requires column { x < t.now.wide }
+    ensures { result ≡ part_at (geometry t.now) y x }
 {
     6 * ((y - t.top) * t.stride + x)
 }

@@ -1,4 +1,4 @@
--- The loops over a source's blocks, as code runs them: what is left from where a loop is, on the lists as they are, is the whole of it on the lists where it began. Assumes nothing.
+-- The loops over a source's blocks, as code runs them: what is left from where a loop is, on the parts as they are, is the whole of it on the parts where it began. Assumes nothing.
 use Rattle.std.proofs.Common.{◌≡◌, refl, ◌∙◌, Bool, true, false, not, ◌&&◌, List, ℕ, ◌+◌, ◌-◌, ◌%◌, ◌≤◌, ◌<◌, min, arith, ℤ, negsuc, get_or}
 use Rattle.std.proofs.Math.Nat.{add-mod_right}
 use Rattle.intops.specs.Choice.{eq_z}
@@ -6,63 +6,89 @@ use Rattle.intops.proofs.Tests.{and_false_right}
 use Rattle.loops.specs.Over.{span_by}
 use Rattle.loops.proofs.Turns.{turned_by, ended_by}
 use Rattle.entry.specs.declared.Source.{Source}
-use Rattle.store.specs.Store.{Store, SameLengths}
+use Rattle.store.specs.declared.Pairs.{Pairs}
+use Rattle.store.specs.Lent.{IsSamePairs}
+use Rattle.store.specs.Store.{Store}
 use Rattle.store.specs.Program.{Prog, run, each_by}
-use Rattle.store.proofs.Local.{like_refl, like_trans}
-use Rattle.tile.specs.declared.Tile.{Tile}
+use Rattle.store.proofs.Borrows.{same_pairs, same_pairs_after}
+use Rattle.tile.specs.Geometry.{Geometry}
 use Rattle.tile.specs.Owner.{owns}
-use Rattle.tile.specs.Sound.{Sound, FieldHeld, TrajHeld, MapHeld}
+use Rattle.tile.specs.Sound.{Sound}
 use Rattle.tile.proofs.Places.{step_some}
+use Rattle.field.specs.declared.Field.{Field}
+use Rattle.field.specs.Lent.{IsSameField, store_of}
+use Rattle.field.proofs.Borrows.{same_field, same_after}
 use Rattle.project.specs.Project.{sample, project_source}
 use Rattle.project.specs.Tested.{source_in_range}
-use Rattle.project.proofs.Tested.{entry_parts}
-use Rattle.sample.specs.Code.{Ranges}
+use Rattle.project.proofs.Tested.{entry_parts, slots_low}
+use Rattle.sample.specs.Code.{IsReadable}
 
--- all seven lists are long enough
-abbrev pub Held : Tile → Store → Type 0
-Held t u = FieldHeld t u.field_y u.field_x u.field_ref × TrajHeld t u.traj_y u.traj_x × MapHeld t u.map_y u.map_x
+-- the parts of a load that are lent
+pub record Parts : Type 0 where
+  pub field : Field
+  pub trajectories : Pairs ℤ
+  pub maps : Pairs ℤ
 
-pub still_held : (t : Tile) (u v : Store) → SameLengths u v → Held t v → Held t u
-still_held t u v p h = (
-  record { y = omega (arith, p.field_y, h.0.y); x = omega (arith, p.field_x, h.0.x); ref = omega (arith, p.field_ref, h.0.ref) },
-  record { y = omega (arith, p.traj_y, h.1.y); x = omega (arith, p.traj_x, h.1.x) },
-  record { y = omega (arith, p.map_y, h.2.y); x = omega (arith, p.map_x, h.2.x) },
-)
+abbrev pub parts : Field → Pairs ℤ → Pairs ℤ → Parts
+parts f ts ms = record { field = f; trajectories = ts; maps = ms }
 
--- a loop from a up to b at the step, for the planes and the sources that are so
-module _ (t : Tile) (So : List ℤ → Source → Type 0) (f : List ℤ → Source → ℕ → Prog) (a b : ℕ) where
-  abbrev turn : List ℤ → Source → ℕ → Store → Store
-  turn r s i u = run (owns t) (f r s i) u
+abbrev pub store : Parts → Store
+store p = store_of p.field p.trajectories p.maps
 
-  pub record At (p : ℕ) (u v : Store) : Type 0 where
-    pub like : SameLengths u v
-    pub from : a ≤ p
-    pub on : p % t.step ≡ 0
-    pub left : (r : List ℤ) (s : Source) → So r s → span_by t.step (turn r s) p b u ≡ span_by t.step (turn r s) a b v
+-- the same lists are lent
+pub record IsSame (p q : Parts) : Type 0 where
+  pub field : IsSameField p.field q.field
+  pub trajectories : IsSamePairs p.trajectories q.trajectories
+  pub maps : IsSamePairs p.maps q.maps
 
-  pub holds : a % t.step ≡ 0 → (u : Store) → At a u u
-  holds h u = record { like = like_refl u; from = omega arith; on = h; left = λ r s o. refl }
+pub same_parts_after : {p q r : Parts} → IsSame p q → IsSame q r → IsSame p r
+same_parts_after h k = record { field = same_after h.field k.field; trajectories = same_pairs_after h.trajectories k.trajectories; maps = same_pairs_after h.maps k.maps }
 
-  module _ (k : Sound t) where
-    pub again : (p : ℕ) (u v w : Store) → p < b → At p u v → SameLengths w u → ((r : List ℤ) (s : Source) → So r s → w ≡ run (owns t) (f r s p) u) → At (p + t.step) w v
-    again p u v w h l q e =
+-- a loop from a up to b at the step
+module _ (t : Geometry) (f : ℕ → Prog) (a b : ℕ) where
+  abbrev turn : ℕ → Store → Store
+  turn i u = run (owns t) (f i) u
+
+  pub record Rest (i : ℕ) (now was : Parts) : Type 0 where
+    pub same : IsSame now was
+    pub from : a ≤ i
+    pub on : i % t.step ≡ 0
+    pub left : span_by t.step turn i b (store now) ≡ span_by t.step turn a b (store was)
+
+  -- the loop has been run
+  pub record IsDone (now was : Parts) : Type 0 where
+    pub same : IsSame now was
+    pub stored : store now ≡ run (owns t) (each_by t.step a b f) (store was)
+
+  pub rest_begins : a % t.step ≡ 0 → (p : Parts) → Rest a p p
+  rest_begins h p = record { same = record { field = same_field p.field; trajectories = same_pairs p.trajectories; maps = same_pairs p.maps }; from = omega arith; on = h; left = refl }
+
+  module _ (k : Sound t) (i : ℕ) (now was : Parts) (r : Rest i now was) where
+    pub rest_turn : (next : Parts) → i < b → IsSame next now → store next ≡ run (owns t) (f i) (store now) → Rest (i + t.step) next was
+    rest_turn next h q e =
         record {
-          like = like_trans q l.like;
-          from = omega (arith, l.from);
-          on = add-mod_right p t.step ∙ l.on;
-          left = λ r s o. turned_by (turn r s) t.step b p u w _ (step_some t k) h (e r s o) (l.left r s o);
+          same = same_parts_after q r.same;
+          from = omega (arith, r.from);
+          on = add-mod_right i t.step ∙ r.on;
+          left = turned_by turn t.step b i (store now) (store next) _ (step_some t k) h e r.left;
         }
 
-    pub done : (p : ℕ) (u v : Store) → b ≤ p → At p u v → (r : List ℤ) (s : Source) → So r s → u ≡ run (owns t) (each_by t.step a b (f r s)) v
+    pub rest_ends : b ≤ i → IsDone now was
     unfolding span_by
-    done p u v h l r s o = ended_by (turn r s) t.step b p u _ (step_some t k) h (l.left r s o)
+    rest_ends h = record { same = r.same; stored = ended_by turn t.step b i (store now) _ (step_some t k) h r.left }
 
--- what test 9 says of a source's lists
-pub ranges : (s : Source) → source_in_range s ≡ true → Ranges s.ref2idx s.ref2sf0 s.ref2sf1
-ranges s h = record { idx = λ b l. (entry_parts s h b l).0; first = λ b l. (entry_parts s h b l).1; second = λ b l. (entry_parts s h b l).2 }
+-- a row's sampled columns
+abbrev pub row : Geometry → Bool → List ℤ → Source → ℕ → ℕ → ℕ → Prog
+row t traj planes s a b y = each_by t.step a b (λ x. sample t traj planes s y x)
+
+-- what test 9 says of a source
+pub readable : (s : Source) → source_in_range s ≡ true → IsReadable s
+readable s h =
+    let q = slots_low s h in
+    record { slot = q.reference; dir = q.dir; entry = λ b l. let e = entry_parts s h b l in record { slot = q.reference; reference = l; idx = e.0; first = e.1; second = e.2 } }
 
 -- a source, on two stores
-module _ (t : Tile) (traj : Bool) (held : List Bool) (planes : List ℤ) (s : Source) (u : Store) where
+module _ (t : Geometry) (traj : Bool) (held : List Bool) (planes : List ℤ) (s : Source) (u : Store) where
   skipped : (not (eq_z s.ref2cur (negsuc 31)) && get_or held s.reference.0 false) ≡ false → u ≡ run (owns t) (project_source t traj held planes s) u
   unfolding project_source
   skipped h = rw h
@@ -74,7 +100,7 @@ module _ (t : Tile) (traj : Bool) (held : List Bool) (planes : List ℤ) (s : So
   too_far h = skipped (rw h)
 
   pub source_on : eq_z s.ref2cur (negsuc 31) ≡ false → get_or held s.reference.0 false ≡ true → (a b : ℕ) → a ≡ t.left - t.edge → b ≡ min (t.right + t.edge) t.wide → (u' : Store)
-      → u' ≡ run (owns t) (each_by t.step t.top t.bottom (λ y. each_by t.step a b (λ x. sample t traj planes s y x))) u
+      → u' ≡ run (owns t) (each_by t.step t.top t.bottom (row t traj planes s a b)) u
       → u' ≡ run (owns t) (project_source t traj held planes s) u
   unfolding project_source
   source_on h p a b ae be u' q = q ∙ rw (h, p, ae, be)

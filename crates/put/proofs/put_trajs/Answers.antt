@@ -1,48 +1,49 @@
 -- `put::put_trajs` meets its contract. Assumes nothing.
-use Rattle.std.proofs.Common.{◌≡◌, true, false, arith, pos}
-use lib.Signed.{lt_z}
-use Rattle.intops.proofs.Signed.{back, lt_lit}
-use Rattle.put.proofs.Steps.{trajs_off, trajs_one, trajs_two}
-use Rattle.put.proofs.put_trajs.Goals.{Else-idx-lt0, Then-idx-lt0}
+use Rattle.std.proofs.Common.{arith}
+use Rattle.store.proofs.Borrows.{same_pairs_after}
+use Rattle.tile.specs.Tiles.{geometry}
+use Rattle.tile.proofs.Lent.{traj_held_after, map_held_after}
+use Rattle.project.specs.Project.{ref2idx}
+use Rattle.landing.proofs.Landings.{no_slot, slot_is}
+use Rattle.put.proofs.Steps.{trajs_one, trajs_two}
 use Rattle.put.proofs.put_trajs.Goals as goal
 
-none : (c : Then-idx-lt0) → lt_z c.args.idx (pos 0) ≡ true
-none c = lt_lit (pos 0) c.ranges.idx c.if-idx-lt0.true
+pub enter_place-requires-clause-first : goal.enter_place-requires-clause-first
+enter_place-requires-clause-first c = let k = c.args.t.now.sound in let l = c.requires.landing in record { row = omega (arith, l.bottom, k.rows, k.frame_end, k.high_low, k.side_low); block = l.own }
 
-some : (c : Else-idx-lt0) → lt_z c.args.idx (pos 0) ≡ false
-some c = lt_lit (pos 0) c.ranges.idx c.if-idx-lt0.false
+pub enter_place-requires-clause-rows : goal.enter_place-requires-clause-rows
+enter_place-requires-clause-rows c = let l = c.requires.landing in record { after = omega (arith, l.rows); before = omega (arith, l.rows) }
 
-pub returns-then-not-traj : goal.returns-then-not-traj
-returns-then-not-traj c = let a = c.args in trajs_off a.t a.v a.y a.x a.y1 a.x1 a.traj a.n a.idx a.sf a.w a.traj_y.now a.traj_x.now a.map_y.now a.map_x.now c.if-not-traj.true
+pub enter_place-requires-clause-columns : goal.enter_place-requires-clause-columns
+enter_place-requires-clause-columns c = let l = c.requires.landing in record { after = l.right; before = l.left }
 
-pub enter_place-requires : goal.enter_place-requires
-enter_place-requires c = let k = c.requires.sound.0 in let l = c.requires.sound.3 in record { sound = (k, c.requires.sound.1, omega (arith, l.bottom, k.rows, k.frame_end, k.high_low, k.side_low), l.own, l.col, c.requires.traj_held.1); block_bound = (omega (arith, l.rows), omega (arith, l.rows), l.right, l.left) }
+pub returns-in_default-clause-stored : goal.returns-in_default-clause-stored
+returns-in_default-clause-stored c =
+    let a = c.args in let e = a.e.now in
+    trajs_one (geometry a.t.now) a.v a.from.y a.from.x a.to.y a.to.x e.source.now e.reference c.index-n.result c.to_source.result c.index-n.ensures c.to_source.ensures a.trajectories.now a.maps.now c.put_traj.new.trajectories c.enter_place.new.maps c.put_traj.ensures.stored c.enter_place.ensures.stored
+    (no_slot (ref2idx e.source.now e.reference) c.slot.result c.slot.ensures.slot c.in_default.is)
 
-pub returns-then-idx-lt0 : goal.returns-then-idx-lt0
-returns-then-idx-lt0 c =
-    let a = c.args in
-    trajs_one a.t a.v a.y a.x a.y1 a.x1 a.traj a.n a.idx a.sf a.w a.traj_y.now a.traj_x.now a.map_y.now a.map_x.now c.if-not-traj.false
-    _ _ _ _ c.put_traj.ensures c.enter_place.ensures (none c)
+pub put_traj-requires-2-clause-held : goal.put_traj-requires-2-clause-held
+put_traj-requires-2-clause-held c = traj_held_after (geometry c.args.t.now) c.put_traj.ensures.same_borrow c.requires.trajectories
 
-pub put_traj-requires-2 : goal.put_traj-requires-2
-put_traj-requires-2 c =
-    let f = c.ranges.idx in
-    (c.requires.sound.0, simp back c.requires.sound.2, c.requires.sound.3.own, record { y = omega (arith, c.put_traj.auto, c.requires.traj_held.0.y); x = omega (arith, c.put_traj.auto, c.requires.traj_held.0.x) })
+pub enter_end-requires-clause-first : goal.enter_end-requires-clause-first
+enter_end-requires-clause-first c = let k = c.args.t.now.sound in let l = c.requires.landing in record { row = omega (arith, l.bottom, k.rows, k.frame_end, k.high_low, k.side_low); block = l.own }
 
-pub enter_end-requires : goal.enter_end-requires
-enter_end-requires c =
-    let f = c.ranges.idx in let k = c.requires.sound.0 in let l = c.requires.sound.3 in (
-      k,
-      simp back c.requires.sound.2,
-      omega (arith, l.bottom, k.rows, k.frame_end, k.high_low, k.side_low),
-      l.own,
-      omega (arith, l.row, k.frame_end, k.high_low),
-      omega (arith, l.col, k.wide, k.stride_low),
-      record { y = omega (arith, c.enter_place.auto, c.requires.traj_held.1.y); x = omega (arith, c.enter_place.auto, c.requires.traj_held.1.x) },
-    )
+pub enter_end-requires-clause-from : goal.enter_end-requires-clause-from
+enter_end-requires-clause-from c = let k = c.args.t.now.sound in let l = c.requires.landing in record { y = omega (arith, l.row, k.frame_end, k.high_low); x = omega (arith, l.col, k.wide, k.stride_low) }
 
-pub returns : goal.returns
-returns c =
-    let a = c.args in let f = c.ranges.idx in let g = c.ranges.sf in
-    trajs_two a.t a.v a.y a.x a.y1 a.x1 a.traj a.n a.idx a.sf a.w a.traj_y.now a.traj_x.now a.map_y.now a.map_x.now c.if-not-traj.false
-    _ _ _ _ c.put_traj.ensures c.enter_place.ensures (some (goal.at.returns c).Else-idx-lt0) _ _ (simp back) (simp back at c.scaled.ensures) _ _ _ _ c.put_traj-2.ensures c.enter_end.ensures
+pub enter_end-requires-clause-held : goal.enter_end-requires-clause-held
+enter_end-requires-clause-held c = map_held_after (geometry c.args.t.now) c.enter_place.ensures.same_borrow c.requires.maps
+
+pub returns-clause-same_trajectories : goal.returns-clause-same_trajectories
+returns-clause-same_trajectories c = same_pairs_after c.put_traj-2.ensures.same_borrow c.put_traj.ensures.same_borrow
+
+pub returns-clause-same_maps : goal.returns-clause-same_maps
+returns-clause-same_maps c = same_pairs_after c.enter_end.ensures.same_borrow c.enter_place.ensures.same_borrow
+
+pub returns-clause-stored : goal.returns-clause-stored
+returns-clause-stored c =
+    let a = c.args in let e = a.e.now in
+    let i = slot_is (ref2idx e.source.now e.reference) c.slot.result c.slot.ensures.slot c.in-Some.m c.in-Some.is in
+    trajs_two (geometry a.t.now) a.v a.from.y a.from.x a.to.y a.to.x e.source.now e.reference c.index-n.result c.to_source.result c.index-n.ensures c.to_source.ensures a.trajectories.now a.maps.now c.put_traj.new.trajectories c.enter_place.new.maps c.put_traj.ensures.stored c.enter_place.ensures.stored
+    c.in-Some.m c.to_reference.result i.0 i.1 c.to_reference.ensures c.put_traj-2.new.trajectories c.enter_end.new.maps c.put_traj-2.ensures.stored c.enter_end.ensures.stored

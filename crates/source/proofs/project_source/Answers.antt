@@ -1,91 +1,157 @@
 -- `source::project_source` meets its contract. Assumes nothing.
-use Rattle.std.proofs.Common.{◌≡◌, refl, sym, ap, ◌∙◌, true, false, ℕ, ◌-◌, ◌%◌, ◌≤◌, arith, negsuc, length, drop, length-drop, w8, SFits, to_z-of_z, rules}
+use Rattle.std.proofs.Common.{◌≡◌, sym, ap, ◌∙◌, true, false, ℕ, ◌-◌, ◌%◌, ◌≤◌, arith, negsuc, length, drop, length-drop, w8, SFits, rules, List, ◌+◌, ◌*◌, ◌<◌, ℤ, take, get_or}
 use Rattle.intops.proofs.Signed.{signed!, eq_yes, eq_no}
 use Rattle.intops.specs.Choice.{eq_z}
-use Rattle.tile.proofs.Places.{sides}
-use Rattle.project.specs.Project.{saved_at}
+use Rattle.tile.specs.Geometry.{Geometry}
+use Rattle.tile.specs.Sound.{Sound}
+use Rattle.tile.specs.Tiles.{geometry}
+use Rattle.tile.proofs.Lent.{traj_held_after, map_held_after}
+use Rattle.tile.proofs.Places.{sides, block_on_step}
+use Rattle.field.proofs.Borrows.{held_after}
+use Rattle.project.specs.Project.{saved_at, sample}
 use Rattle.project.specs.Tested.{block_fine, row_fine}
-use Rattle.project.proofs.Tested.{slots_low}
-use Rattle.source.proofs.Rounds.{ranges, no_plane, too_far, source_on}
 use Rattle.project.proofs.Owned.{block_fine_lem}
+use Rattle.project.proofs.Tested.{slots_low}
 use Rattle.saved.proofs.Parts.{rest, rows_in, block_same}
-use Rattle.source.proofs.project_source.Goals.{After-rows_at-at, After-struct_told-1, Else-not-present, Else-s-eq224, Start}
+use Rattle.source.proofs.Rounds.{parts, IsDone, rest_begins, rest_turn, rest_ends, readable, no_plane, too_far, source_on}
+use Rattle.source.proofs.project_source.Goals.{Else-s, Left-loop-x, else-loop-x-test, then-loop-x-test+else-x-step-end}
 use Rattle.source.proofs.project_source.Goals as goal
 
-cur_fits : (c : After-struct_told-1) → SFits w8 c.args.s.ref2cur
-cur_fits c = search rules
+-- the columns begin at a sampled one
+from_on : (t : Geometry) → Sound t → (t.left - t.edge) % t.step ≡ 0
+from_on t k = sides t k (λ B d. t.left % B ≡ 0 → t.edge % d ≡ 0 → (t.left - t.edge) % d ≡ 0) (λ a b. omega arith) (λ a b. omega arith) (λ a b. omega arith) (λ a b. omega arith) k.start k.edge_on_step
 
-tgt_fits : (c : After-struct_told-1) → SFits w8 c.args.s.tgt
-tgt_fits c = search rules
+-- the part of the planes from place i on, where the rows of slot n begin
+begins : (t : Geometry) (m n i : ℕ) → i ≡ saved_at t m t.top 0 → m ≡ n → i ≡ saved_at t n t.top 0
+begins t m n i e f = e ∙ ap (λ (j : ℕ). saved_at t j t.top 0) f
+
+part_is : (t : Geometry) (m n i : ℕ) (l : List ℤ) → i ≡ saved_at t m t.top 0 → m ≡ n → drop (saved_at t n t.top 0) l ≡ take (length l - i) (drop i l)
+part_is t m n i l e f = ap (λ (j : ℕ). drop j l) (sym (begins t m n i e f)) ∙ sym (rest i l)
+
+long : (t : Geometry) → Sound t → (m n i : ℕ) (l : List ℤ) → i ≡ saved_at t m t.top 0 → m ≡ n → n < 7 → 6 * (7 * (t.high * t.stride)) ≤ length l
+    → (i ≤ length l) × (6 * ((t.bottom - t.top) * t.stride) ≤ length (take (length l - i) (drop i l)))
+long t k m n i l e f p h =
+    let b = begins t m n i e f in let r = rows_in t k n p in
+    (omega (arith, b, r, h), omega (arith, b, r, h, ap length (rest i l), length-drop i l))
 
 low_fits : SFits w8 (negsuc 31)
 low_fits = omega signed!
 
-cur_fits_at_1 : (c : Else-s-eq224) → SFits w8 c.args.s.ref2cur
-cur_fits_at_1 c = search rules
+near : (c : Else-s) → eq_z c.args.s.now.ref2cur (negsuc 31) ≡ false
+near c = let f : SFits w8 c.args.s.now.ref2cur = search rules in eq_no {w = w8} {b = negsuc 31} f low_fits c.if-s.false
 
-near : (c : Else-s-eq224) → eq_z c.args.s.ref2cur (negsuc 31) ≡ false
-near c = eq_no {w = w8} {b = negsuc 31} (cur_fits_at_1 c) low_fits c.if-s-eq224.false
+pub returns-then-not-here-clause-stored : goal.returns-then-not-here-clause-stored
+returns-then-not-here-clause-stored c =
+    let a = c.args in no_plane (geometry a.t.now) a.traj a.present.now a.planes.now a.s.now _ (rw c.index-n.ensures at c.if-not-here.true)
 
-there : (c : Else-not-present) → c.args.present ≡ true
-there c = c.if-not-present.false
+pub returns-then-s-clause-stored : goal.returns-then-s-clause-stored
+returns-then-s-clause-stored c =
+    let a = c.args in let f : SFits w8 a.s.now.ref2cur = search rules in
+    too_far (geometry a.t.now) a.traj a.present.now a.planes.now a.s.now _ (eq_yes {w = w8} {b = negsuc 31} f low_fits c.if-s.true)
 
-there_at_1 : (c : Else-s-eq224) → c.args.present ≡ true
-there_at_1 c = c.if-not-present.false
-
--- test 12
-fine : (c : Else-s-eq224) → row_fine c.args.t c.args.planes.now c.args.s ≡ true
-fine c = c.requires.sound.3 (rw (near c) (there_at_1 c))
-
-from_on : (s : Start) → let t = s.args.t in (t.left - t.edge) % t.step ≡ 0
-from_on s =
-    let t = s.args.t in let k = s.requires.sound.0 in
-    sides t k (λ B d. t.left % B ≡ 0 → t.edge % d ≡ 0 → (t.left - t.edge) % d ≡ 0) (λ a b. omega arith) (λ a b. omega arith) (λ a b. omega arith) (λ a b. omega arith) k.start k.edge_on_step
-
--- where the part begins, and that it lies in the planes
-begins : (c : After-rows_at-at) → let a = c.args in c.rows_at-at.result ≡ saved_at a.t a.s.reference.0 a.t.top 0
-begins c = let a = c.args in c.rows_at-at.ensures ∙ ap (λ (n : ℕ). saved_at a.t n a.t.top 0) c.slot_index-n.ensures
-
-lies_in : (c : After-rows_at-at) → c.rows_at-at.result ≤ length c.args.planes.now
-lies_in c =
-    let a = c.args in let p = c.requires.sound in
-    omega (arith, begins c, rows_in a.t p.0 a.s.reference.0 (slots_low a.s p.1).reference, p.2)
-
-pub returns-then-not-present : goal.returns-then-not-present
-returns-then-not-present c = let a = c.args in λ held e. no_plane a.t a.traj held a.planes.now a.s _ (e ∙ c.if-not-present.true)
-
-pub returns-then-s-eq224 : goal.returns-then-s-eq224
-returns-then-s-eq224 c = let a = c.args in λ held e. too_far a.t a.traj held a.planes.now a.s _ (eq_yes {w = w8} {b = negsuc 31} (cur_fits (goal.at.returns-then-s-eq224 c).After-struct_told-1) low_fits c.if-s-eq224.true)
+pub bounds-present-n : goal.bounds-present-n
+bounds-present-n c = rw c.index-n.ensures (slots_low c.args.s.now c.requires.source).reference
 
 pub rows_at-at-requires : goal.rows_at-at-requires
-rows_at-at-requires c = rw c.slot_index-n.ensures (c.requires.sound.0, (slots_low c.args.s c.requires.sound.1).reference)
+rows_at-at-requires c = rw c.index-n.ensures (slots_low c.args.s.now c.requires.source).reference
 
-pub slice_bounds-project_rows-count : goal.slice_bounds-project_rows-count
-slice_bounds-project_rows-count c = omega (arith, lies_in (goal.at.slice_bounds-project_rows-count c).After-rows_at-at)
-
-pub slice_bounds-project_rows-start : goal.slice_bounds-project_rows-start
-slice_bounds-project_rows-start c = omega (arith, lies_in (goal.at.slice_bounds-project_rows-start c).After-rows_at-at)
-
-pub project_rows-requires : goal.project_rows-requires
-project_rows-requires c =
-    let a = c.args in let p = c.requires.sound in let k = p.0 in let q = slots_low a.s p.1 in
-    let i = c.rows_at-at.result in let l = a.planes.now in record {
-      sound = (
-        k,
-        rw c.slot_index-n.ensures q.reference,
-        q.dir,
-        rw c.less-from.ensures (from_on (goal.at.project_rows-requires c).Start),
-        omega (arith, c.least-end.ensures),
-        omega (arith, begins (goal.at.project_rows-requires c).After-rows_at-at, rows_in a.t k a.s.reference.0 q.reference, p.2, ap length (rest i l), length-drop i l),
-        ranges a.s p.1,
-      );
-      field_held = c.requires.field_held;
-      by_index = λ y x u v o w z. block_same a.t l _ a.s.reference.0 y x u (ap (λ (j : ℕ). drop j l) (sym (begins (goal.at.project_rows-requires c).After-rows_at-at)) ∙ sym (rest i l)) block_fine a.s.dir ∙ block_fine_lem a.t k a.s q l (fine (goal.at.project_rows-requires c).Else-s-eq224) y x u v o w z;
-    }
-
-pub returns : goal.returns
-returns c =
+pub slice_bounds-part-start : goal.slice_bounds-part-start
+slice_bounds-part-start c =
     let a = c.args in
-    λ held e.
-    source_on a.t a.traj held a.planes.now a.s _ (near (goal.at.returns c).Else-s-eq224) (e ∙ there (goal.at.returns c).Else-not-present) _ _ c.less-from.ensures c.least-end.ensures _
-    (c.project_rows.ensures a.planes.now a.s (record { part = ap (λ (i : ℕ). drop i a.planes.now) (sym c.rows_at-at.ensures) ∙ sym (rest c.rows_at-at.result a.planes.now); slot = sym c.slot_index-n.ensures; tgt = sym (to_z-of_z (tgt_fits (goal.at.returns c).After-struct_told-1)); dir = refl; ref2ref = refl; ref2idx = refl; ref2sf0 = refl; ref2sf1 = refl }))
+    omega (arith, (long (geometry a.t.now) a.t.now.sound _ a.s.now.reference.0 _ a.planes.now c.rows_at-at.ensures c.index-n.ensures (slots_low a.s.now c.requires.source).reference c.requires.long).0)
+
+pub slice_bounds-part-count : goal.slice_bounds-part-count
+slice_bounds-part-count c =
+    let a = c.args in
+    omega (arith, (long (geometry a.t.now) a.t.now.sound _ a.s.now.reference.0 _ a.planes.now c.rows_at-at.ensures c.index-n.ensures (slots_low a.s.now c.requires.source).reference c.requires.long).0)
+
+pub loop-y-init : goal.loop-y-init
+loop-y-init c = let t = geometry c.args.t.now in let k = c.args.t.now.sound in rest_begins t _ _ _ (block_on_step t k t.top k.top_on_block) _
+
+pub loop-x-init : goal.loop-x-init
+loop-x-init c = let t = geometry c.args.t.now in rest_begins t _ _ _ (rw c.saturating_sub-from.ensures (from_on t c.args.t.now.sound)) _
+
+pub sample-requires-clause-source : goal.sample-requires-clause-source
+sample-requires-clause-source c = readable c.args.s.now c.requires.source
+
+pub sample-requires-clause-long : goal.sample-requires-clause-long
+sample-requires-clause-long c =
+    let a = c.args in
+    (long (geometry a.t.now) a.t.now.sound _ a.s.now.reference.0 _ a.planes.now c.rows_at-at.ensures c.index-n.ensures (slots_low a.s.now c.requires.source).reference c.requires.long).1
+
+pub sample-requires-clause-row : goal.sample-requires-clause-row
+sample-requires-clause-row c = (c.loop-y.invariant.from, c.loop-y-test.true)
+
+pub sample-requires-clause-column : goal.sample-requires-clause-column
+sample-requires-clause-column c = omega (arith, c.loop-x-test.true, c.min-end.ensures)
+
+pub sample-requires-clause-fine : goal.sample-requires-clause-fine
+sample-requires-clause-fine c =
+    let a = c.args in let t = geometry a.t.now in let s = a.s.now in let l = a.planes.now in
+    let there : get_or a.present.now s.reference.0 false ≡ true = rw c.index-n.ensures at c.if-not-here.false in
+    let f : row_fine t l s ≡ true = c.requires.fine (rw (near (goal.at.sample-requires-clause-fine c).Else-s, there)) in
+    let p : c.loop-x.x < t.wide = omega (arith, c.loop-x-test.true, c.min-end.ensures) in
+    let u = c.loop-y.invariant in
+    block_same t l _ s.reference.0 c.loop-y.y c.loop-x.x u.from (part_is t _ s.reference.0 _ l c.rows_at-at.ensures c.index-n.ensures) block_fine s.dir
+    ∙ block_fine_lem t a.t.now.sound s (slots_low s c.requires.source) l f c.loop-y.y c.loop-x.x u.from c.loop-y-test.true u.on p c.loop-x.invariant.on
+
+pub sample-requires-clause-field : goal.sample-requires-clause-field
+sample-requires-clause-field c = let t = geometry c.args.t.now in held_after t c.loop-x.invariant.same.field (held_after t c.loop-y.invariant.same.field c.requires.field)
+
+pub sample-requires-clause-trajectories : goal.sample-requires-clause-trajectories
+sample-requires-clause-trajectories c = let t = geometry c.args.t.now in traj_held_after t c.loop-x.invariant.same.trajectories (traj_held_after t c.loop-y.invariant.same.trajectories c.requires.trajectories)
+
+pub sample-requires-clause-maps : goal.sample-requires-clause-maps
+sample-requires-clause-maps c = let t = geometry c.args.t.now in map_held_after t c.loop-x.invariant.same.maps (map_held_after t c.loop-y.invariant.same.maps c.requires.maps)
+
+pub loop-x-preserved : goal.loop-x-preserved
+loop-x-preserved c =
+    let a = c.args in let t = geometry a.t.now in let e = c.sample.ensures in
+    rest_turn t _ _ _ a.t.now.sound c.loop-x.x (parts c.loop-x.field c.loop-x.trajectories c.loop-x.maps) (parts c.loop-y.field c.loop-y.trajectories c.loop-y.maps) c.loop-x.invariant
+    (parts c.sample.new.field c.sample.new.trajectories c.sample.new.maps) (omega arith) (record { field = e.same_field; trajectories = e.same_trajectories; maps = e.same_maps })
+    (e.stored a.planes.now (part_is t _ a.s.now.reference.0 _ a.planes.now c.rows_at-at.ensures c.index-n.ensures))
+
+-- what the row's loop has done, whichever way it ended
+row_done : (c : Left-loop-x) → let t = geometry c.args.t.now in
+    IsDone t (λ x. sample t c.args.traj c.args.planes.now c.args.s.now c.loop-y.y x) c.saturating_sub-from.result c.min-end.result (parts c.loop-x-test.field c.loop-x-test.trajectories c.loop-x-test.maps)
+    (parts c.loop-y.field c.loop-y.trajectories c.loop-y.maps)
+row_done c =
+    let a = c.args in let t = geometry a.t.now in let k = a.t.now.sound in
+    let now = parts c.loop-x.field c.loop-x.trajectories c.loop-x.maps in let was = parts c.loop-y.field c.loop-y.trajectories c.loop-y.maps in
+    elim c.loop-x-test.branch [
+      | else-loop-x-test w ↦ rw (w.field-is, w.trajectories-is, w.maps-is) (rest_ends t _ _ _ k c.loop-x.x now was c.loop-x.invariant w.loop-x-test.false)
+      | then-loop-x-test+else-x-step-end w ↦
+          let e = w.sample.ensures in let next = parts w.sample.new.field w.sample.new.trajectories w.sample.new.maps in
+          let r = rest_turn t _ _ _ k c.loop-x.x now was c.loop-x.invariant next w.loop-x-test.true (record { field = e.same_field; trajectories = e.same_trajectories; maps = e.same_maps })
+          (e.stored a.planes.now (part_is t _ a.s.now.reference.0 _ a.planes.now c.rows_at-at.ensures c.index-n.ensures)) in
+          rw (w.field-is, w.trajectories-is, w.maps-is) (rest_ends t _ _ _ k (c.loop-x.x + t.step) next was r (omega arith))
+    ]
+
+pub loop-y-preserved : goal.loop-y-preserved
+loop-y-preserved c =
+    let a = c.args in let d = row_done (goal.at.loop-y-preserved c).Left-loop-x in
+    rest_turn (geometry a.t.now) _ _ _ a.t.now.sound c.loop-y.y (parts c.loop-y.field c.loop-y.trajectories c.loop-y.maps) (parts a.field.now a.trajectories.now a.maps.now) c.loop-y.invariant
+    (parts c.loop-x-test.field c.loop-x-test.trajectories c.loop-x-test.maps) (omega arith) d.same d.stored
+
+pub returns-else-s-clause-stored : goal.returns-else-s-clause-stored
+returns-else-s-clause-stored c =
+    let a = c.args in let t = geometry a.t.now in let s = a.s.now in
+    let there : get_or a.present.now s.reference.0 false ≡ true = rw c.index-n.ensures at c.if-not-here.false in
+    source_on t a.traj a.present.now a.planes.now s _ (near (goal.at.returns-else-s-clause-stored c).Else-s) there _ _ c.saturating_sub-from.ensures c.min-end.ensures _
+    (rest_ends t _ _ _ a.t.now.sound c.loop-y.y (parts c.loop-y.field c.loop-y.trajectories c.loop-y.maps) (parts a.field.now a.trajectories.now a.maps.now) c.loop-y.invariant (omega arith)).stored
+
+-- after the last row by the other way
+pub returns-else-s-2 : goal.returns-else-s-2
+returns-else-s-2 c =
+    let a = c.args in let t = geometry a.t.now in let s = a.s.now in let k = a.t.now.sound in
+    let there : get_or a.present.now s.reference.0 false ≡ true = rw c.index-n.ensures at c.if-not-here.false in
+    let d = row_done (goal.at.returns-else-s-2 c).Left-loop-x in
+    let next = parts c.loop-x-test.field c.loop-x-test.trajectories c.loop-x-test.maps in let was = parts a.field.now a.trajectories.now a.maps.now in
+    let r = rest_turn t _ _ _ k c.loop-y.y (parts c.loop-y.field c.loop-y.trajectories c.loop-y.maps) was c.loop-y.invariant next c.loop-y-test.true d.same d.stored in
+    let e = rest_ends t _ _ _ k (c.loop-y.y + t.step) next was r (omega arith) in
+    record {
+      same_field = e.same.field;
+      same_trajectories = e.same.trajectories;
+      same_maps = e.same.maps;
+      stored = source_on t a.traj a.present.now a.planes.now s _ (near (goal.at.returns-else-s-2 c).Else-s) there _ _ c.saturating_sub-from.ensures c.min-end.ensures _ e.stored;
+    }
