@@ -2,7 +2,7 @@
 use Rattle.std.proofs.Common.{◌≡◌, refl, Bool, false, List, [], ◌∷◌, ℕ, zero, suc, ℤ, pos, get_or}
 use Rattle.entry.specs.declared.Source.{Source}
 use Rattle.frame.specs.Frame.{no_source}
-use Rattle.tile.specs.declared.Tile.{Tile}
+use Rattle.tile.specs.Geometry.{Geometry}
 use Rattle.project.specs.Tested.{all_below, source_in_range, row_fine}
 use Rattle.checks.specs.Code.{is_fine}
 
@@ -21,7 +21,7 @@ bare_in_range = refl
 pub in_range_at : (l : List Source) (i : ℕ) → source_in_range (get_or l i bare) ≡ source_in_range (get_or l i no_source)
 in_range_at l i = same_default source_in_range l i bare no_source bare_in_range
 
-module _ (t : Tile) (planes : List ℤ) (present : List Bool) where
+module _ (t : Geometry) (planes : List ℤ) (present : List Bool) where
   abbrev test : Source → Bool
   test s = is_fine t planes (get_or present s.reference.0 false) s
 

@@ -1,3 +1,4 @@
 pub mod Bounds
 pub mod Defaults
+pub mod Lists
 pub mod Tests

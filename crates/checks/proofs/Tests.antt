@@ -20,10 +20,6 @@ same_tests true false = refl
 same_tests false true = refl
 same_tests false false = refl
 
-pub and_false : (a : Bool) → (a && false) ≡ false
-and_false true = refl
-and_false false = refl
-
 pub and_true : (a : Bool) → (a && true) ≡ a
 and_true true = refl
 and_true false = refl

@@ -1,29 +1,19 @@
--- A load as its entry is asked for it, and its answer in 01's numbers. Assumes nothing.
-use Rattle.std.specs.Prelude.{Bool, List, ℕ, ℤ}
-use Rattle.frame.specs.declared.Frame.{Frame}
-use Rattle.load.specs.Load.{Call}
-use Rattle.checks.specs.declared.LoadAnswer.{LoadAnswer}
-use Rattle.checks.specs.declared.LoadAnswer.TheVariants.{Loaded, SetupOutOfRange, TileOutOfRange, TooShort, ContentsOutOfRange}
+-- What the tests of a load answer. Assumes nothing.
+use Rattle.std.specs.Prelude.{◌≡◌, Bool, true, false, ◌&&◌, Result, MatchResult}
+use Rattle.levels.specs.Answer.{number_of}
+use Rattle.levels.specs.declared.Refusal.{Refusal}
+use Rattle.store.specs.Store.{Store}
+use Rattle.tile.specs.declared.numbers.Tile.{Tile}
+use Rattle.tile.specs.Tiles.{geometry}
+use Rattle.load.specs.Load.{Call, tile_of}
+use Rattle.load.specs.Calls.{setup_in_range, tile_fits, answer}
 
--- the call that a load is asked for, of its parts
-abbrev pub call_of : Frame → Bool → Bool → Bool → ℕ → ℕ → ℕ → ℕ → List ℤ → Call
-call_of f w t h a b c d p =
-    record {
-      setup = f;
-      whole_frame = w;
-      traj = t;
-      holes = h;
-      col_start = a;
-      col_end = b;
-      row_start = c;
-      row_end = d;
-      planes = p;
-    }
+-- a test's answer: this refusal where b is false, and none where it is true
+abbrev pub Tests : {A : Type 0} → Bool → Refusal → Result A Refusal → Type 0
+Tests b refusal r = MatchResult r (λ _. b ≡ true) (λ e. (e ≡ refusal) × (b ≡ false))
 
--- the number of an answer (01 "Why a tank is turned back"), 0 for none
-abbrev pub number_of : LoadAnswer → ℕ
-number_of Loaded = 0
-number_of SetupOutOfRange = 9
-number_of TileOutOfRange = 10
-number_of TooShort = 11
-number_of ContentsOutOfRange = 12
+-- the tile of a call that passes tests 9 and 10, or the number of the one that turns it back, whatever the store
+abbrev pub MakesTile : Call → Result Tile Refusal → Type 0
+MakesTile c r =
+    MatchResult r (λ t. (setup_in_range c.setup ≡ true) × (tile_fits c ≡ true) × (geometry t ≡ tile_of c))
+    (λ e. ((setup_in_range c.setup && tile_fits c) ≡ false) × ((s : Store) → number_of e ≡ answer c s))

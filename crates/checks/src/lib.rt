@@ -1,269 +1,278 @@
-// The tests that a load begins with: 9 to 12 of 01 "Why a tank is turned back".
+// The tests that a load begins with, in their order: refusals 9 to 12.
 #![tactic(auto)]
 
-ghost use Rattle.std.specs.Prelude.{◌≡◌, Bool, true, false, cond, ◌&&◌, List, [], ℕ, ◌+◌, ◌-◌, ◌*◌, ◌/◌, ◌≤◌, ◌<◌, leb, ℤ, pos, negsuc, nat_abs, length, get_or};
+ghost use Rattle.std.specs.Prelude.{◌≡◌, true, cond, ◌&&◌, List, [], ◌+◌, ◌-◌, ◌*◌, ◌/◌, ◌≤◌, ◌<◌, ℤ, pos, negsuc, length, get_or, MatchResult};
+ghost use Rattle.levels.specs.Answer.{number_of};
 ghost use Rattle.frame.specs.Frame.{no_source};
-ghost use Rattle.store.specs.Store.{Store, vec, with_traj};
-ghost use Rattle.tile.specs.Sound.{Sound, TrajHeld};
+ghost use Rattle.store.specs.Store.{Store, vec};
+ghost use Rattle.store.specs.Lent.{with_trajs};
+ghost use Rattle.tile.specs.Lent.{IsTrajHeld};
+ghost use Rattle.tile.specs.Tiles.{geometry};
 ghost use Rattle.traj.specs.Traj.{traj_in_range};
+ghost use Rattle.field.specs.Lent.{store_of};
 ghost use Rattle.project.specs.Project.{saved_ref, saved_mv};
 ghost use Rattle.project.specs.Tested.{all_below, within, entry_in_range, source_in_range, block_fine};
+ghost use Rattle.load.specs.Asked.{call_of};
 ghost use Rattle.load.specs.Load.{side_of, block_of, edge_of, wide_of, high_of, stride_of, tile_of};
 ghost use Rattle.load.specs.Calls.{setup_in_range, tile_fits, long_enough, contents_fine, answer};
-ghost use Rattle.checks.specs.Answer.{call_of, number_of};
-ghost use Rattle.checks.specs.Code.{Lengths, PlanesHeld, line_fine, is_fine, fine_at};
+ghost use Rattle.checks.specs.Answer.{Tests, MakesTile};
+ghost use Rattle.checks.specs.Code.{PlanesHeld, line_fine, is_fine, fine_at};
 
 use entry::Source;
+use field::Field;
 use frame::{Frame, Sources};
-use levels::Mv;
+use levels::{Mv, Refusal};
+use load::Asked;
+use store::Pairs;
 use tile::Tile;
 
-// What a load answers.
-#[derive(Clone, Copy)]
-pub enum LoadAnswer {
-    Loaded,
-    // Refusal 9: a number of the setup out of range.
-    SetupOutOfRange,
-    // Refusal 10: columns or rows that are no tile's.
-    TileOutOfRange,
-    // Refusal 11: planes or a part of the store shorter than stated.
-    TooShort,
-    // Refusal 12: a sampled block or a trajectory out of range.
-    ContentsOutOfRange,
-}
-
-// Is z at least a, and at most b?
-fn is_within(a: i32, b: i32, z: i32) -> bool
-    ensures { result ≡ within a b z }
+// A slot, or -1 for none.
+fn slot_or_none(z: i8) -> bool
+    ensures { result ≡ within (negsuc 0) (pos 6) z }
 {
-    (a <= z) & (z <= b)
+    (-1..=6).contains(&z)
 }
 
-// What a source says of a reference: its distance, its slot, the two factors.
-fn entry_in_range(d: i8, idx: i8, sf0: i32, sf1: i32) -> bool
-    ensures { result ≡ (leb (nat_abs d) 31 && within (negsuc 0) (pos 6) idx && leb (nat_abs sf0) 507904 && leb (nat_abs sf1) 507904) }
+// A distance, or -32 for a source that is skipped.
+fn distance_or_skip(z: i8) -> bool
+    ensures { result ≡ within (negsuc 31) (pos 31) z }
 {
-    is_within(-31, 31, d as i32)
-        & is_within(-1, 6, idx as i32)
-        & is_within(-507904, 507904, sf0)
-        & is_within(-507904, 507904, sf1)
+    (-32..=31).contains(&z)
 }
 
-fn entries_in_range(s: Source) -> bool
-    ensures { result ≡ all_below 7 (entry_in_range s) }
+// What a source says of reference k: its distance, its slot, the two factors.
+fn entry_in_range(s: &Source, k: usize) -> bool
+    requires { k < 7 }
+    ensures { result ≡ entry_in_range s.now k }
+{
+    (s.ref2ref[k].unsigned_abs() <= 31)
+        & slot_or_none(s.ref2idx[k])
+        & (s.ref2sf0[k].unsigned_abs() <= 507904)
+        & (s.ref2sf1[k].unsigned_abs() <= 507904)
+}
+
+fn entries_in_range(s: &Source) -> bool
+    ensures { result ≡ all_below 7 (entry_in_range s.now) }
+{
+    (0..7).all(|k| entry_in_range(s, k))
+}
+
+#[tactic(auto, unfolding(project::specs::Tested::source_in_range))]
+fn source_in_range(s: &Source) -> bool
+    ensures { result ≡ source_in_range s.now }
+{
+    (s.reference.0 < 7)
+        & slot_or_none(s.tgt)
+        & (s.dir < 2)
+        & distance_or_skip(s.ref2cur)
+        & entries_in_range(s)
+}
+
+// The sources that the setup counts.
+fn sources_in_range(sources: &Sources) -> bool
+    requires { sources.now.n_mfmvs ≤ 4 }
+    ensures { result ≡ all_below sources.now.n_mfmvs (λ n. source_in_range (get_or sources.now.mfmv n no_source)) }
 {
     let mut ok = true;
-    for k in 0..7 {
-        let d = s.ref2ref[k];
-        let idx = s.ref2idx[k];
-        let sf0 = s.ref2sf0[k];
-        let sf1 = s.ref2sf1[k];
-        ok = ok & entry_in_range(d, idx, sf0, sf1);
+    // By index: nothing is known of the length of an array in a struct when a part of it is walked.
+    for n in 0..sources.n_mfmvs {
+        ok &= source_in_range(&sources.mfmv[n]);
     }
     ok
 }
 
-fn source_in_range(s: Source) -> bool
-    ensures { result ≡ source_in_range s }
+/// Test 9: the numbers of a setup are in range.
+#[tactic(auto, unfolding(load::specs::Calls::setup_in_range))]
+pub fn check_setup(setup: &Frame) -> Result<(), Refusal>
+    ensures { Tests (setup_in_range setup.now) Refusal.SetupOutOfRange result }
 {
-    let slot = s.reference;
-    let target = is_within(-1, 6, s.tgt as i32);
-    let cur = is_within(-32, 31, s.ref2cur as i32);
-    (slot.0 < 7) & target & (s.dir < 2) & cur & entries_in_range(s)
-}
-
-// The sources that the record counts.
-fn sources_in_range(q: Sources) -> bool
-    requires { q.n_mfmvs ≤ 4 }
-    ensures { result ≡ all_below q.n_mfmvs (λ n. source_in_range (get_or q.mfmv n no_source)) }
-{
-    let n = q.n_mfmvs;
-    let mut ok = true;
-    for i in 0..n {
-        let s = q.mfmv[i];
-        ok = ok & source_in_range(s);
-    }
-    ok
-}
-
-// Test 9.
-pub fn setup_in_range(f: Frame) -> bool
-    ensures { result ≡ setup_in_range f }
-{
-    let q = f.sources;
-    if 4 < q.n_mfmvs {
-        return false;
-    }
-    let step = f.tmvp_sample_step;
-    (f.n_refs <= 7)
-        & (f.sb128 <= 2)
-        & (step != 0)
-        & (step <= 2)
-        & !frame::bad_size(f.width)
-        & !frame::bad_size(f.height)
-        & sources_in_range(q)
-}
-
-pub fn side_of(f: Frame) -> usize
-    ensures { result ≡ side_of f }
-{
-    if f.sb128 == 0 {
-        8
-    } else if f.sb128 == 1 {
-        16
+    if setup.n_refs <= 7
+        && setup.sb128 <= 2
+        && setup.tmvp_sample_step != 0
+        && setup.tmvp_sample_step <= 2
+        && !frame::bad_size(setup.width)
+        && !frame::bad_size(setup.height)
+        && setup.sources.n_mfmvs <= 4
+        && sources_in_range(&setup.sources)
+    {
+        Ok(())
     } else {
-        32
+        Err(Refusal::SetupOutOfRange)
     }
 }
 
-fn block_of(f: Frame) -> usize
-    ensures { result ≡ block_of f }
+/// The side of a superblock in cells (S).
+#[tactic(auto, using(load::proofs::Accepted::side_low_lem))]
+pub fn side_of(setup: &Frame) -> usize
+    ensures value { result ≡ side_of setup.now }
+    ensures low { result ≤ 32 }
 {
-    if (f.sb128 != 0) & (f.tmvp_sample_step == 2) {
+    match setup.sb128 {
+        0 => 8,
+        1 => 16,
+        _ => 32,
+    }
+}
+
+fn block_of(setup: &Frame) -> usize
+    ensures { result ≡ block_of setup.now }
+{
+    if setup.sb128 != 0 && setup.tmvp_sample_step == 2 {
         16
     } else {
         8
     }
 }
 
-fn edge_of(f: Frame) -> usize
-    ensures { result ≡ edge_of f }
+fn edge_of(setup: &Frame) -> usize
+    ensures { result ≡ edge_of setup.now }
 {
-    if f.tmvp_sample_step == 2 {
-        block_of(f)
+    if setup.tmvp_sample_step == 2 {
+        block_of(setup)
     } else {
-        block_of(f) / 2
+        block_of(setup) / 2
     }
 }
 
-pub fn wide_of(f: Frame) -> usize
-    ensures { result ≡ wide_of f }
+/// The frame's width in cells (W).
+pub fn wide_of(setup: &Frame) -> usize
+    ensures { result ≡ wide_of setup.now }
 {
-    (f.width as usize + 7) / 8
+    (setup.width as usize).div_ceil(8)
 }
 
-pub fn high_of(f: Frame) -> usize
-    ensures { result ≡ high_of f }
+/// The frame's height in cells (H).
+pub fn high_of(setup: &Frame) -> usize
+    ensures value { result ≡ high_of setup.now }
+    ensures low { result ≤ 536870912 }
 {
-    (f.height as usize + 7) / 8
+    (setup.height as usize).div_ceil(8)
 }
 
-pub fn stride_of(f: Frame) -> usize
-    ensures { result ≡ stride_of f }
+/// The length of a row of the store: whole numbers of 32 cells.
+pub fn stride_of(setup: &Frame) -> usize
+    ensures value { result ≡ stride_of setup.now }
+    ensures low { result ≤ 536870912 }
 {
-    (f.width as usize + 255) / 256 * 256 / 8
+    (setup.width as usize).next_multiple_of(256) / 8
 }
 
-// Test 10. Rows may be any number: their end is worked out only where they begin in the frame.
-pub fn tile_fits(
-    f: Frame,
-    col_start: usize,
-    col_end: usize,
-    row_start: usize,
-    row_end: usize,
-) -> bool
-    ensures { (w t h : Bool) (p : List ℤ) → result ≡ tile_fits (call_of f w t h col_start col_end row_start row_end p) }
+/// Test 10: the columns and rows are a tile's. Rows may be any number.
+#[tactic(auto, unfolding(load::specs::Calls::tile_fits))]
+pub fn check_tile(setup: &Frame, asked: Asked) -> Result<(), Refusal>
+    ensures { (p : List ℤ) → Tests (tile_fits (call_of setup.now asked p)) Refusal.TileOutOfRange result }
 {
-    let side = side_of(f);
-    let wide = wide_of(f);
-    let high = high_of(f);
-    if high <= row_start {
-        return false;
+    let side = side_of(setup);
+    let wide = wide_of(setup);
+    let high = high_of(setup);
+    let Asked {
+        col_start,
+        col_end,
+        row_start,
+        row_end,
+        ..
+    } = asked;
+    // The rows' end is worked out only where they begin in the frame.
+    if col_start < col_end
+        && col_end <= wide
+        && col_start % side == 0
+        && (col_end % side == 0 || col_end == wide)
+        && row_start % side == 0
+        && row_start < high
+        && (row_end == row_start + side || (high <= row_end && row_end <= row_start + side))
+    {
+        Ok(())
+    } else {
+        Err(Refusal::TileOutOfRange)
     }
-    let end = row_start + side;
-    let cols = (col_start < col_end)
-        & (col_end <= wide)
-        & (col_start % side == 0)
-        & ((col_end % side == 0) | (col_end == wide));
-    cols & (row_start % side == 0) & ((row_end == end) | ((high <= row_end) & (row_end <= end)))
 }
 
 // The row of the field where the superblock row begins.
-fn first_row(whole_frame: bool, row_start: usize) -> usize
-    ensures { result ≡ cond whole_frame row_start 3 }
+fn first_row(asked: Asked) -> usize
+    ensures { result ≡ cond asked.whole_frame asked.row_start 3 }
 {
-    if whole_frame { row_start } else { 3 }
+    if asked.whole_frame {
+        asked.row_start
+    } else {
+        3
+    }
 }
 
 // The numbers of a tile that passes tests 9 and 10.
-pub fn tile_of(
-    f: Frame,
-    whole_frame: bool,
-    col_start: usize,
-    col_end: usize,
-    row_start: usize,
-    row_end: usize,
-) -> Tile
-    requires f_value { setup_in_range f ≡ true }
-    requires row_end_value { tile_fits (call_of f whole_frame false false col_start col_end row_start row_end []) ≡ true }
-    ensures { (t h : Bool) (p : List ℤ) → result ≡ tile_of (call_of f whole_frame t h col_start col_end row_start row_end p) }
+fn tile_at(setup: &Frame, asked: Asked) -> Tile
+    requires setup { setup_in_range setup.now ≡ true }
+    requires tile { tile_fits (call_of setup.now asked []) ≡ true }
+    ensures { (p : List ℤ) → geometry result ≡ tile_of (call_of setup.now asked p) }
 {
-    let side = side_of(f);
-    let block = block_of(f);
-    let edge = edge_of(f);
-    let wide = wide_of(f);
-    let high = high_of(f);
-    let stride = stride_of(f);
-    let offset = first_row(whole_frame, row_start) * stride;
-    let bottom = tile::least(row_end, high);
+    let stride = stride_of(setup);
+    let high = high_of(setup);
     Tile {
-        side,
-        block,
-        edge,
-        step: f.tmvp_sample_step as usize,
-        wide,
+        side: side_of(setup),
+        block: block_of(setup),
+        edge: edge_of(setup),
+        step: usize::from(setup.tmvp_sample_step),
+        wide: wide_of(setup),
         high,
         stride,
-        offset,
-        left: col_start,
-        right: col_end,
-        top: row_start,
-        bottom,
+        offset: first_row(asked) * stride,
+        left: asked.col_start,
+        right: asked.col_end,
+        top: asked.row_start,
+        bottom: asked.row_end.min(high),
     }
+}
+
+/// The tile that a load is asked for, where tests 9 and 10 pass.
+#[tactic(auto, unfolding(load::specs::Calls::answer))]
+pub fn tile_of(setup: &Frame, asked: Asked) -> Result<Tile, Refusal>
+    ensures { (p : List ℤ) → MakesTile (call_of setup.now asked p) result }
+{
+    check_setup(setup)?;
+    check_tile(setup, asked)?;
+    Ok(tile_at(setup, asked))
 }
 
 // The rows of the field: in whole-frame mode the frame's, raised to a multiple of 32, else a superblock row and three above it.
-fn field_rows(f: Frame, whole_frame: bool) -> usize
-    ensures { result ≡ cond whole_frame ((high_of f + 31) / 32 * 32) (side_of f + 3) }
+fn field_rows(setup: &Frame, whole_frame: bool) -> usize
+    ensures value { result ≡ cond whole_frame ((high_of setup.now + 31) / 32 * 32) (side_of setup.now + 3) }
+    ensures low { result ≤ 536870944 }
 {
     if whole_frame {
-        return (high_of(f) + 31) / 32 * 32;
+        high_of(setup).next_multiple_of(32)
+    } else {
+        side_of(setup) + 3
     }
-    side_of(f) + 3
 }
 
-// Test 11.
-pub fn long_enough(
-    f: Frame,
-    whole_frame: bool,
+/// Test 11: the planes, of which the length is told, and the store are as long as the frame needs.
+#[tactic(auto, unfolding(load::specs::Calls::long_enough, load::specs::Load::tile_of, tile::specs::Layout::row_cells))]
+pub fn check_lengths(
+    setup: &Frame,
+    asked: Asked,
     planes: usize,
-    field_y: usize,
-    field_x: usize,
-    field_ref: usize,
-    traj_y: usize,
-    traj_x: usize,
-    map_y: usize,
-    map_x: usize,
-) -> bool
-    requires { setup_in_range f ≡ true }
-    ensures { (t h : Bool) (a b c d : ℕ) (p : List ℤ) (s : Store) → length p ≡ planes
-        → Lengths s field_y field_x field_ref traj_y traj_x map_y map_x → result ≡ long_enough (call_of f whole_frame t h a b c d p) s }
+    field: &Field<'_>,
+    trajectories: &Pairs<'_, i32>,
+    maps: &Pairs<'_, i8>,
+) -> Result<(), Refusal>
+    ensures { (p : List ℤ) → length p ≡ planes
+        → Tests (long_enough (call_of setup.now asked p) (store_of field.now trajectories.now maps.now)) Refusal.TooShort result }
 {
-    let high = high_of(f);
-    let stride = stride_of(f);
-    let row = side_of(f) * stride;
-    let field = field_rows(f, whole_frame) * stride;
-    (6 * (7 * (high * stride)) <= planes)
-        & (field <= field_y)
-        & (field <= field_x)
-        & (field <= field_ref)
-        & (7 * row <= traj_y)
-        & (7 * row <= traj_x)
-        & (21 * row <= map_y)
-        & (21 * row <= map_x)
+    let stride = stride_of(setup);
+    let cells = field_rows(setup, asked.whole_frame) * stride;
+    let row = side_of(setup) * stride;
+    let long = (6 * (7 * (high_of(setup) * stride)) <= planes)
+        & (cells <= field.y.len())
+        & (cells <= field.x.len())
+        & (cells <= field.reference.len())
+        & (7 * row <= trajectories.y.len())
+        & (7 * row <= trajectories.x.len())
+        & (21 * row <= maps.y.len())
+        & (21 * row <= maps.x.len());
+    if long { Ok(()) } else { Err(Refusal::TooShort) }
 }
 
 // A block has no reference, or one of the seven and a vector that is the mark as a whole or not at all.
+// The tests of a block are joined without branches: this runs for each sampled block.
 fn block_fine(planes: &[i8], at: usize, dir: usize) -> bool
     requires { (at + 6 ≤ length planes.now) × (dir < 2) }
     ensures { result ≡ block_fine (saved_ref planes.now at dir) (saved_mv planes.now at dir) }
@@ -275,60 +284,58 @@ fn block_fine(planes: &[i8], at: usize, dir: usize) -> bool
 }
 
 // The sampled blocks of row y, also those outside the tile's columns: projection reads them.
-fn line_fine(planes: &[i8], t: Tile, slot: usize, dir: usize, y: usize) -> bool
-    requires { Sound t × PlanesHeld t planes.now × (slot < 7) × (dir < 2) × (y < t.high) }
-    ensures { result ≡ line_fine t planes.now slot dir y }
+fn line_fine(planes: &[i8], t: &Tile, slot: usize, dir: usize, y: usize) -> bool
+    requires planes { PlanesHeld (geometry t.now) planes.now }
+    requires inside { (slot < 7) × (dir < 2) × (y < t.now.high) }
+    ensures { result ≡ line_fine (geometry t.now) planes.now slot dir y }
 {
-    let n = tile::count(t, 0, t.wide);
+    let n = t.count(0, t.wide);
     let start = (slot * t.high + y) * t.stride;
-    let step = t.step;
     let mut ok = true;
     for i in 0..n {
-        ok = ok & block_fine(planes, 6 * (start + i * step), dir);
+        ok &= block_fine(planes, 6 * (start + i * t.step), dir);
     }
     ok
 }
 
-fn row_fine(planes: &[i8], t: Tile, slot: usize, dir: usize) -> bool
-    requires { Sound t × PlanesHeld t planes.now × (slot < 7) × (dir < 2) }
-    ensures { result ≡ all_below ((t.bottom - t.top + (t.step - 1)) / t.step) (λ j. line_fine t planes.now slot dir (t.top + j * t.step)) }
+fn row_fine(planes: &[i8], t: &Tile, slot: usize, dir: usize) -> bool
+    requires planes { PlanesHeld (geometry t.now) planes.now }
+    requires inside { (slot < 7) × (dir < 2) }
+    ensures { result ≡ all_below ((t.now.bottom - t.now.top + (t.now.step - 1)) / t.now.step) (λ j. line_fine (geometry t.now) planes.now slot dir (t.now.top + j * t.now.step)) }
 {
-    let n = tile::count(t, t.top, t.bottom);
+    let n = t.count(t.top, t.bottom);
     let mut ok = true;
     for j in 0..n {
-        ok = ok & line_fine(planes, t, slot, dir, t.top + j * t.step);
+        ok &= line_fine(planes, t, slot, dir, t.top + j * t.step);
     }
     ok
 }
 
 // A source that is skipped, or whose plane is not present, is not looked at.
-fn source_fine(planes: &[i8], t: Tile, present: bool, s: Source) -> bool
-    requires { Sound t × PlanesHeld t planes.now × (s.reference.0 < 7) × (s.dir < 2) }
-    ensures { result ≡ is_fine t planes.now present s }
+fn source_fine(planes: &[i8], t: &Tile, present: bool, s: &Source) -> bool
+    requires planes { PlanesHeld (geometry t.now) planes.now }
+    requires inside { (s.now.reference.0 < 7) × (s.now.dir < 2) }
+    ensures { result ≡ is_fine (geometry t.now) planes.now present s.now }
 {
-    if s.ref2cur == -32 {
+    if s.ref2cur == -32 || !present {
         return true;
     }
-    if !present {
-        return true;
-    }
-    let slot = s.reference;
-    row_fine(planes, t, levels::slot_index(slot), s.dir as usize)
+    row_fine(planes, t, s.reference.index(), usize::from(s.dir))
 }
 
-fn sources_fine(planes: &[i8], t: Tile, f: Frame) -> bool
-    requires f_value { setup_in_range f ≡ true }
-    requires sound { Sound t × PlanesHeld t planes.now }
-    ensures { result ≡ all_below f.sources.n_mfmvs (fine_at t planes.now f) }
+// Each source that the setup counts.
+fn sources_fine(planes: &[i8], t: &Tile, setup: &Frame) -> bool
+    requires setup { setup_in_range setup.now ≡ true }
+    requires planes { PlanesHeld (geometry t.now) planes.now }
+    ensures { result ≡ all_below setup.now.sources.n_mfmvs (fine_at (geometry t.now) planes.now setup.now) }
 {
-    let q = f.sources;
-    let n = q.n_mfmvs;
+    let sources = &setup.sources;
     let mut ok = true;
-    for i in 0..n {
-        let s = q.mfmv[i];
-        let slot = s.reference;
-        let present = f.rp_ref[levels::slot_index(slot)];
-        ok = ok & source_fine(planes, t, present, s);
+    // By index, as above.
+    for n in 0..sources.n_mfmvs {
+        let s = &sources.mfmv[n];
+        let present = setup.rp_ref[s.reference.index()];
+        ok &= source_fine(planes, t, present, s);
     }
     ok
 }
@@ -337,96 +344,62 @@ fn sources_fine(planes: &[i8], t: Tile, f: Frame) -> bool
 fn traj_in_range(v: Mv) -> bool
     ensures { result ≡ traj_in_range v }
 {
-    let near = is_within(-65535, 65535, v.y) & is_within(-65535, 65535, v.x);
+    let near = (v.y.unsigned_abs() <= 65535) & (v.x.unsigned_abs() <= 65535);
     (mv::is_empty(v) & (v.x == 0)) | near
 }
 
-fn trajs_in_range(traj_y: &[i32], traj_x: &[i32], n: usize) -> bool
-    requires { (n ≤ length traj_y.now) × (n ≤ length traj_x.now) }
-    ensures { result ≡ all_below n (λ i. traj_in_range (vec (get_or traj_y.now i (pos 0)) (get_or traj_x.now i (pos 0)))) }
+// The first n trajectories. The flag is joined without a branch: there are 7 x S x stride of them.
+fn trajs_in_range(trajectories: &Pairs<'_, i32>, n: usize) -> bool
+    requires y { n ≤ length trajectories.now.y.now }
+    requires x { n ≤ length trajectories.now.x.now }
+    ensures { result ≡ all_below n (λ i. traj_in_range (vec (get_or trajectories.now.y.now i (pos 0)) (get_or trajectories.now.x.now i (pos 0)))) }
 {
     let mut ok = true;
     for i in 0..n {
-        ok = ok & traj_in_range(tile::cell_at(traj_y, traj_x, i));
+        ok &= traj_in_range(trajectories.vector(i));
     }
     ok
 }
 
-// Test 12.
-pub fn contents_fine(planes: &[i8], traj_y: &[i32], traj_x: &[i32], f: Frame, t: Tile) -> bool
-    requires f_value { setup_in_range f ≡ true }
-    requires sound { Sound t × PlanesHeld t planes.now × TrajHeld t traj_y.now traj_x.now }
-    ensures { (w u h : Bool) (a b c d : ℕ) (s : Store) → tile_of (call_of f w u h a b c d planes.now) ≡ t
-        → result ≡ contents_fine (call_of f w u h a b c d planes.now) (with_traj s traj_y.now traj_x.now s.map_y s.map_x) }
+/// Test 12: the sampled blocks of the superblock row, and the trajectories, are in range.
+#[tactic(auto, unfolding(tile::specs::Layout::row_cells))]
+pub fn check_contents(
+    setup: &Frame,
+    t: &Tile,
+    planes: &[i8],
+    trajectories: &Pairs<'_, i32>,
+) -> Result<(), Refusal>
+    requires setup { setup_in_range setup.now ≡ true }
+    requires planes { PlanesHeld (geometry t.now) planes.now }
+    requires held { IsTrajHeld (geometry t.now) trajectories.now }
+    ensures { (a : Asked) (s : Store) → tile_of (call_of setup.now a planes.now) ≡ geometry t.now
+        → Tests (contents_fine (call_of setup.now a planes.now) (with_trajs s trajectories.now)) Refusal.ContentsOutOfRange result }
 {
     let n = 7 * (t.side * t.stride);
-    sources_fine(planes, t, f) & trajs_in_range(traj_y, traj_x, n)
+    let fine = sources_fine(planes, t, setup) & trajs_in_range(trajectories, n);
+    if fine {
+        Ok(())
+    } else {
+        Err(Refusal::ContentsOutOfRange)
+    }
 }
 
-// The first test that turns the load back, in 01's order. No test reads the field or the maps: their lengths are enough.
-pub fn answer_of(
+/// The tile that a load is asked for, or the first test that turns the load back. No test reads the
+/// field or the maps: their lengths are enough.
+#[tactic(auto, unfolding(load::specs::Calls::answer))]
+pub fn check_load(
+    setup: &Frame,
+    asked: Asked,
     planes: &[i8],
-    traj_y: &[i32],
-    traj_x: &[i32],
-    field_y: usize,
-    field_x: usize,
-    field_ref: usize,
-    map_y: usize,
-    map_x: usize,
-    f: Frame,
-    whole_frame: bool,
-    col_start: usize,
-    col_end: usize,
-    row_start: usize,
-    row_end: usize,
-) -> LoadAnswer
-    ensures { (t h : Bool) (s : Store)
-        → Lengths (with_traj s traj_y.now traj_x.now s.map_y s.map_x) field_y field_x field_ref
-        (length traj_y.now) (length traj_x.now) map_y map_x
-        → number_of result ≡ answer (call_of f whole_frame t h col_start col_end row_start row_end planes.now)
-        (with_traj s traj_y.now traj_x.now s.map_y s.map_x) }
+    field: &Field<'_>,
+    trajectories: &Pairs<'_, i32>,
+    maps: &Pairs<'_, i8>,
+) -> Result<Tile, Refusal>
+    ensures { let c = call_of setup.now asked planes.now in let s = store_of field.now trajectories.now maps.now in
+        MatchResult result (λ t. (answer c s ≡ 0) × (geometry t ≡ tile_of c)) (λ e. number_of e ≡ answer c s) }
 {
-    if !setup_in_range(f) {
-        return LoadAnswer::SetupOutOfRange;
-    }
-    let fits = tile_fits(f, col_start, col_end, row_start, row_end);
-    let n = planes.len();
-    let ys = traj_y.len();
-    let xs = traj_x.len();
-    let long = long_enough(
-        f,
-        whole_frame,
-        n,
-        field_y,
-        field_x,
-        field_ref,
-        ys,
-        xs,
-        map_y,
-        map_x,
-    );
-    if !fits {
-        return LoadAnswer::TileOutOfRange;
-    }
-    if !long {
-        return LoadAnswer::TooShort;
-    }
-    let t = tile_of(f, whole_frame, col_start, col_end, row_start, row_end);
-    if !contents_fine(planes, traj_y, traj_x, f, t) {
-        return LoadAnswer::ContentsOutOfRange;
-    }
-    LoadAnswer::Loaded
-}
-
-// 01's number of an answer, 0 for none.
-pub fn number(a: LoadAnswer) -> u8
-    ensures { result ≡ number_of a }
-{
-    match a {
-        LoadAnswer::Loaded => 0,
-        LoadAnswer::SetupOutOfRange => 9,
-        LoadAnswer::TileOutOfRange => 10,
-        LoadAnswer::TooShort => 11,
-        LoadAnswer::ContentsOutOfRange => 12,
-    }
+    let t = tile_of(setup, asked)?;
+    check_lengths(setup, asked, planes.len(), field, trajectories, maps)?;
+    check_contents(setup, &t, planes, trajectories)?;
+    Ok(t)
 }

@@ -1,5 +1,5 @@
 -- What tests 9 to 12 say of an accepted call. Assumes nothing.
-use Rattle.std.proofs.Common.{◌≡◌, refl, sym, subst, Bool, true, false, not, cond, ◌&&◌, ◌||◌, true≢false, ◌⊎◌, inl, inr, ℕ, ◌+◌, ◌*◌, ◌/◌, ◌%◌, ◌≤◌, ◌<◌, min, mul-le-mul, arith, leb-true, ltb-true, ltb-false, eqb-true, eqb, leb, ltb, get_or}
+use Rattle.std.proofs.Common.{◌≡◌, refl, sym, subst, Bool, true, false, not, cond, ◌&&◌, ◌||◌, true≢false, ℕ, ◌+◌, ◌*◌, ◌/◌, ◌%◌, ◌≤◌, ◌<◌, min, mul-le-mul, arith, leb-true, ltb-true, ltb-false, eqb-true, eqb, leb, ltb, get_or}
 use Rattle.std.proofs.Math.Nat.{mul-mod_left}
 use borrow.Author.Tests.{eqb-false}
 use Rattle.intops.proofs.Tests.{and_both, not-false}
@@ -180,9 +180,9 @@ sound c r k =
     let f : Frame = c.setup in
     record {
       side = omega (arith, side_low_lem f);
-      side_kind = sizes (λ S B s. (S ≡ 8) ⊎ ((S ≡ 16) ⊎ (S ≡ 32))) f r (inl refl) (inl refl) (inr (inl refl)) (inr (inl refl)) (inr (inr refl)) (inr (inr refl));
-      block = sizes (λ S B s. (B ≡ 8) ⊎ (B ≡ 16)) f r (inl refl) (inl refl) (inl refl) (inr refl) (inl refl) (inr refl);
-      step = sizes (λ S B s. (s ≡ 1) ⊎ (s ≡ 2)) f r (inl refl) (inr refl) (inl refl) (inr refl) (inl refl) (inr refl);
+      side_kind = sizes (λ S B s. (eqb S 8 || (eqb S 16 || eqb S 32)) ≡ true) f r refl refl refl refl refl refl;
+      block = sizes (λ S B s. (eqb B 8 || eqb B 16) ≡ true) f r refl refl refl refl refl refl;
+      step = sizes (λ S B s. (eqb s 1 || eqb s 2) ≡ true) f r refl refl refl refl refl refl;
       few = sizes (λ S B s. B ≤ 8 * s) f r (omega arith) (omega arith) (omega arith) (omega arith) (omega arith) (omega arith);
       edge = edge_low f;
       edge_on_step = edge_even f r;
@@ -199,6 +199,8 @@ sound c r k =
       bottom = k.bottom;
       frame_end = omega arith;
       side_low = (side_low_lem f).1;
+      block_low = sizes (λ S B s. B ≤ 16) f r (omega arith) (omega arith) (omega arith) (omega arith) (omega arith) (omega arith);
+      step_low = sizes (λ S B s. s ≤ 2) f r (omega arith) (omega arith) (omega arith) (omega arith) (omega arith) (omega arith);
       stride_low = omega (arith, r.width);
       high_low = omega (arith, r.height);
       offset_low = offset_low_lem c.whole_frame c.row_start (stride_of f) (omega (arith, k.rows, r.height)) (omega (arith, r.width));

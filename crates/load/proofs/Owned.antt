@@ -6,7 +6,7 @@ use Rattle.entry.specs.declared.Source.{Source}
 use Rattle.frame.specs.Frame.{no_source}
 use Rattle.store.specs.Store.{Store}
 use Rattle.store.proofs.Owned.{Owned}
-use Rattle.tile.specs.declared.Tile.{Tile}
+use Rattle.tile.specs.Geometry.{Geometry}
 use Rattle.tile.specs.Owner.{owns}
 use Rattle.tile.specs.Sound.{Sound}
 use Rattle.tile.proofs.Places.{sides}
@@ -58,7 +58,7 @@ owned_load c s h = (
   ),
 )
   where
-    t : Tile
+    t : Geometry
     t = tile_of c
 
     r : InRange c.setup

@@ -4,7 +4,7 @@ use Rattle.intops.proofs.Tests.{and_both}
 use Rattle.store.specs.Store.{Store, trajs, rd}
 use Rattle.store.proofs.Local.{Local, local_run}
 use Rattle.store.proofs.Keeps.{Keeps, Good, good_run}
-use Rattle.tile.specs.declared.Tile.{Tile}
+use Rattle.tile.specs.Geometry.{Geometry}
 use Rattle.tile.specs.Layout.{row_cells}
 use Rattle.tile.specs.Owner.{own_block, owns, block_number}
 use Rattle.field.proofs.Keeps.{keeps_copy_above, keeps_empty_field, keeps_tip_projection, keeps_fill_holes, keeps_smoothen, keeps_fill_gap_proj}
@@ -20,7 +20,7 @@ use Rattle.load.proofs.Held.{long}
 
 -- ---- each trajectory that a load writes is one that test 12 lets through
 
-module _ (t : Tile) where
+module _ (t : Geometry) where
   keeps_load : (c : Call) → Keeps InRange (load_tmvs t c)
   unfolding load_tmvs project_sources tip_passes gap_passes
   keeps_load c = (

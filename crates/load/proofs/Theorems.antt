@@ -6,7 +6,7 @@ use Rattle.store.specs.Calls.{keep, accepted}
 use Rattle.store.proofs.Local.{local_comm}
 use Rattle.store.proofs.Owned.{owned_run}
 use Rattle.store.proofs.Order.{all_keep, pairs_map, order, answers_stay, none_refused}
-use Rattle.tile.specs.declared.Tile.{Tile}
+use Rattle.tile.specs.Geometry.{Geometry}
 use Rattle.tile.specs.Layout.{row_cells}
 use Rattle.tile.specs.Owner.{own_block, owns}
 use Rattle.tile.specs.Sound.{Sound}
@@ -38,7 +38,7 @@ none_is_refused = none_refused answer load (λ c. c.col_start) stays
 -- ---- tiles with no common column have no common block: a block's first column would be common
 
 -- a tile's block begins in the tile
-block_in : (t : Tile) → Sound t → (n : ℕ) → own_block t n ≡ true → (t.left ≤ (n - 1) * t.block) × ((n - 1) * t.block < t.right)
+block_in : (t : Geometry) → Sound t → (n : ℕ) → own_block t n ≡ true → (t.left ≤ (n - 1) * t.block) × ((n - 1) * t.block < t.right)
 block_in t k n h =
     let b = mine_bounds t n h in (
       sides t k (λ B s. t.left / B + 1 ≤ n → t.left % B ≡ 0 → t.left ≤ (n - 1) * B) (λ p q. omega arith) (λ p q. omega arith) (λ p q. omega arith) (λ p q. omega arith) b.0 k.start,

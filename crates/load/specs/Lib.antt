@@ -1,3 +1,4 @@
+pub mod Asked
 pub mod Load
 pub mod Calls
 pub mod Theorems

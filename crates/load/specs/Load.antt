@@ -3,7 +3,7 @@ use Rattle.std.specs.Prelude.{Bool, not, cond, ◌&&◌, List, ℕ, ◌+◌, ◌
 use Rattle.frame.specs.declared.Frame.{Frame}
 use Rattle.frame.specs.Frame.{no_source}
 use Rattle.store.specs.Program.{Prog, when, each, ◌>>◌}
-use Rattle.tile.specs.declared.Tile.{Tile}
+use Rattle.tile.specs.Geometry.{Geometry}
 use Rattle.field.specs.Field.{copy_above, empty_field, tip_projection, fill_holes, smoothen, fill_gap_proj}
 use Rattle.traj.specs.Traj.{empty_trajs, fill_gap_traj}
 use Rattle.project.specs.Project.{project_source}
@@ -46,7 +46,7 @@ abbrev pub stride_of : Frame → ℕ
 stride_of f = (f.width + 255) / 256 * 256 / 8
 
 -- the numbers of a call; in row mode the superblock row stands behind the three rows above it, in whole-frame mode at its own rows
-unfoldable pub tile_of : Call → Tile
+unfoldable pub tile_of : Call → Geometry
 tile_of c =
     record {
       side = side_of c.setup;
@@ -67,7 +67,7 @@ tile_of c =
 -- then with TIP mode not 0 `tip_projection` and, if hole filling is on, `fill_holes` and `smoothen`;
 -- with step 2 `fill_gap_traj` for slots in use, then `fill_gap_proj`."
 
-module _ (t : Tile) (c : Call) where
+module _ (t : Geometry) (c : Call) where
   unfoldable pub project_sources : Prog
   project_sources =
       each 0 c.setup.sources.n_mfmvs (λ n. project_source t c.traj c.setup.rp_ref c.planes (get_or c.setup.sources.mfmv n no_source))

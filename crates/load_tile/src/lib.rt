@@ -1,70 +1,54 @@
 // The passes of a load in their order.
 #![tactic(auto)]
 
-ghost use Rattle.std.specs.Prelude.{◌≡◌, false, ◌*◌, ◌≤◌, length};
-ghost use Rattle.store.specs.Store.{pack};
+ghost use Rattle.std.specs.Prelude.{◌≡◌, false, ◌*◌, ◌≤◌};
+ghost use Rattle.store.specs.Lent.{IsSamePairs};
 ghost use Rattle.store.specs.Program.{run};
+ghost use Rattle.tile.specs.Lent.{IsTrajHeld, IsMapHeld};
 ghost use Rattle.tile.specs.Owner.{owns};
-ghost use Rattle.tile.specs.Sound.{Sound, FieldHeld, TrajHeld, MapHeld};
-ghost use Rattle.load.specs.Load.{Call, load_tmvs};
+ghost use Rattle.tile.specs.Tiles.{geometry};
+ghost use Rattle.field.specs.Lent.{IsHeld, IsSameField, store_of};
+ghost use Rattle.load.specs.Asked.{call_of};
+ghost use Rattle.load.specs.Load.{load_tmvs};
+ghost use Rattle.checks.specs.Code.{PlanesHeld};
 ghost use Rattle.sources.specs.Code.{SourcesFine};
-ghost use Rattle.load_tile.specs.Code.{Asked};
 
+use field::Field;
 use frame::Frame;
+use load::Asked;
+use store::Pairs;
 use tile::Tile;
 
-// A tile whose tests have passed.
+/// Loads a tile whose tests have passed: copies the three rows above in row mode, empties the tile,
+/// projects the sources, and runs the passes over the field and the trajectories.
+#[tactic(auto, using(field::proofs::Borrows::same_after, store::proofs::Borrows::same_pairs_after))]
 pub fn load_tile(
-    field_y: &mut [i32],
-    field_x: &mut [i32],
-    field_ref: &mut [u8],
-    traj_y: &mut [i32],
-    traj_x: &mut [i32],
-    map_y: &mut [i8],
-    map_x: &mut [i8],
+    field: &mut Field<'_>,
+    trajectories: &mut Pairs<'_, i32>,
+    maps: &mut Pairs<'_, i8>,
     planes: &[i8],
-    t: Tile,
-    setup: Frame,
-    whole_frame: bool,
-    traj: bool,
-    holes: bool,
+    t: &Tile,
+    setup: &Frame,
+    asked: Asked,
 )
-    requires sound { Sound t × (whole_frame ≡ false → t.offset ≡ 3 * t.stride) × (6 * (7 * (t.high * t.stride)) ≤ length planes.now) × SourcesFine t setup.rp_ref planes.now setup.sources × (setup.n_refs ≤ 7) }
-    requires field_held { FieldHeld t field_y.old field_x.old field_ref.old × TrajHeld t traj_y.old traj_x.old × MapHeld t map_y.old map_x.old }
-    ensures { (c : Call) → Asked c setup whole_frame traj holes planes.now
-        → pack field_y.new field_x.new field_ref.new traj_y.new traj_x.new map_y.new map_x.new
-        ≡ run (owns t) (load_tmvs t c)
-        (pack field_y.old field_x.old field_ref.old traj_y.old traj_x.old map_y.old map_x.old) }
+    requires row_mode { asked.whole_frame ≡ false → t.now.offset ≡ 3 * t.now.stride }
+    requires planes { PlanesHeld (geometry t.now) planes.now }
+    requires fine { SourcesFine (geometry t.now) setup.now.rp_ref planes.now setup.now.sources }
+    requires slots { setup.now.n_refs ≤ 7 }
+    requires field { IsHeld (geometry t.now) field.old }
+    requires trajectories { IsTrajHeld (geometry t.now) trajectories.old }
+    requires maps { IsMapHeld (geometry t.now) maps.old }
+    ensures same_field { IsSameField field.new field.old }
+    ensures same_trajectories { IsSamePairs trajectories.new trajectories.old }
+    ensures same_maps { IsSamePairs maps.new maps.old }
+    ensures stored { store_of field.new trajectories.new maps.new
+        ≡ run (owns (geometry t.now)) (load_tmvs (geometry t.now) (call_of setup.now asked planes.now))
+        (store_of field.old trajectories.old maps.old) }
 {
-    stages::copy_rows(field_y, field_x, field_ref, t, whole_frame);
-    field::empty_field(field_y, field_x, t);
-    stages::clear_trajs(traj_y, traj_x, map_y, map_x, t, traj);
-    let present = setup.rp_ref;
-    let sources = setup.sources;
-    sources::project_sources(
-        field_y, field_x, field_ref, traj_y, traj_x, map_y, map_x, planes, t, traj, present,
-        sources,
-    );
-    let table = mv::div_mult_table();
-    let tip = setup.tip;
-    stages::tip_passes(
-        field_y,
-        field_x,
-        field_ref,
-        &table,
-        t,
-        setup.tip_frame_mode,
-        tip.delta,
-        holes,
-    );
-    stages::gap_passes(
-        field_y,
-        field_x,
-        field_ref,
-        traj_y,
-        traj_x,
-        &table,
-        t,
-        setup.n_refs,
-    );
+    stages::copy_rows(field, t, asked.whole_frame);
+    field::empty_field(field, t);
+    stages::clear_trajs(trajectories, maps, t, asked.traj);
+    sources::project_sources(field, trajectories, maps, planes, t, setup, asked);
+    stages::tip_passes(field, t, setup, asked);
+    stages::gap_passes(field, trajectories, t, setup);
 }

@@ -3,14 +3,14 @@ use Rattle.std.proofs.Common.{◌≡◌, refl, ap, ◌∙◌, sym, Bool, true, f
 use Rattle.std.proofs.Math.Nat.{mul-div-le}
 use borrow.Author.Tests.{eqb-false}
 use Rattle.frame.specs.declared.Frame.{Frame}
-use Rattle.store.specs.Store.{Store, SameLengths}
+use Rattle.store.specs.Store.{Store}
 use Rattle.store.specs.Calls.{called, as_listed}
-use Rattle.store.proofs.Local.{like_refl, like_trans}
 use Rattle.loops.proofs.Turns.{row_within}
+use Rattle.load.specs.Asked.{asked_of, call_of}
 use Rattle.load.specs.Load.{Call, side_of, high_of}
 use Rattle.load.specs.Calls.{answer, load}
 use Rattle.load.proofs.Accepted.{side_low_lem}
-use Rattle.checks.specs.Answer.{call_of}
+use Rattle.sources.proofs.Rounds.{Parts, IsSameParts, store_in, same_parts, same_parts_after}
 use Rattle.loads.specs.Frame.{row_calls, rows_calls, rows_of, after, until_refused, NoneRefused}
 
 -- ---- a call and those that follow
@@ -43,65 +43,65 @@ in_first cs ds s u n e z = until_both cs ds s ∙ rw (← e, ne_eqb n 0 z)
 
 -- ---- a loop over calls: what is left, on the store as it is, is the whole of it on the store where it began
 
-pub record Going (left all : List Call) (s t : Store) : Type 0 where
-  pub like : SameLengths s t
-  pub is : until_refused left s ≡ until_refused all t
+pub record Going (left all : List Call) (p q : Parts) : Type 0 where
+  pub like : IsSameParts p q
+  pub is : until_refused left (store_in p) ≡ until_refused all (store_in q)
 
-pub going_first : (cs : List Call) (s : Store) → Going cs cs s s
-going_first cs s = record { like = like_refl s; is = refl }
+pub going_first : (cs : List Call) (p : Parts) → Going cs cs p p
+going_first cs p = record { like = same_parts p; is = refl }
 
 module _ (f : Frame) (traj holes : Bool) (planes : List ℤ) where
   -- ---- the tiles of a superblock row
-  module _ (row : ℕ) (ends : List ℕ) (i start bottom n : ℕ) (all : List Call) (s u t : Store) where
+  module _ (row : ℕ) (ends : List ℕ) (i start bottom n : ℕ) (all : List Call) (p q o : Parts) where
     row_first : i < length ends → bottom ≡ row + side_of f
-        → row_calls f traj holes planes row start (drop i ends) ≡ call_of f true traj holes start (get_or ends i 0) row bottom planes ∷ row_calls f traj holes planes row (get_or ends i 0) (drop (i + 1) ends)
+        → row_calls f traj holes planes row start (drop i ends) ≡ call_of f (asked_of true traj holes start (get_or ends i 0) row bottom) planes ∷ row_calls f traj holes planes row (get_or ends i 0) (drop (i + 1) ends)
     unfolding row_calls
     row_first h e = rw (add-one, drop-cons ends i 0 h, e)
 
     pub row_on : i < length ends → bottom ≡ row + side_of f
-        → n ≡ answer (call_of f true traj holes start (get_or ends i 0) row bottom planes) s
-        → u ≡ called answer load (call_of f true traj holes start (get_or ends i 0) row bottom planes) s
-        → n ≡ 0 → SameLengths u s → Going (row_calls f traj holes planes row start (drop i ends)) all s t
-        → Going (row_calls f traj holes planes row (get_or ends i 0) (drop (i + 1) ends)) all u t
+        → n ≡ answer (call_of f (asked_of true traj holes start (get_or ends i 0) row bottom) planes) (store_in p)
+        → store_in q ≡ called answer load (call_of f (asked_of true traj holes start (get_or ends i 0) row bottom) planes) (store_in p)
+        → n ≡ 0 → IsSameParts q p → Going (row_calls f traj holes planes row start (drop i ends)) all p o
+        → Going (row_calls f traj holes planes row (get_or ends i 0) (drop (i + 1) ends)) all q o
     row_on h e a l z k g =
         record {
-          like = like_trans k g.like;
-          is = ap (until_refused (row_calls f traj holes planes row (get_or ends i 0) (drop (i + 1) ends))) l ∙ sym (until_on _ _ s (sym a ∙ z)) ∙ ap (λ (cs : List Call). until_refused cs s) (sym (row_first h e)) ∙ g.is;
+          like = same_parts_after k g.like;
+          is = ap (until_refused (row_calls f traj holes planes row (get_or ends i 0) (drop (i + 1) ends))) l ∙ sym (until_on _ _ (store_in p) (sym a ∙ z)) ∙ ap (λ (cs : List Call). until_refused cs (store_in p)) (sym (row_first h e)) ∙ g.is;
         }
 
     pub row_stop : i < length ends → bottom ≡ row + side_of f
-        → n ≡ answer (call_of f true traj holes start (get_or ends i 0) row bottom planes) s
-        → u ≡ called answer load (call_of f true traj holes start (get_or ends i 0) row bottom planes) s
-        → (n ≡ 0 → ⊥) → Going (row_calls f traj holes planes row start (drop i ends)) all s t
-        → after n u ≡ until_refused all t
+        → n ≡ answer (call_of f (asked_of true traj holes start (get_or ends i 0) row bottom) planes) (store_in p)
+        → store_in q ≡ called answer load (call_of f (asked_of true traj holes start (get_or ends i 0) row bottom) planes) (store_in p)
+        → (n ≡ 0 → ⊥) → Going (row_calls f traj holes planes row start (drop i ends)) all p o
+        → after n (store_in q) ≡ until_refused all (store_in o)
     row_stop h e a l z g =
-        rw (a, l) (sym (until_stop _ _ s (λ x. z (a ∙ x))) ∙ ap (λ (cs : List Call). until_refused cs s) (sym (row_first h e)) ∙ g.is)
+        rw (a, l) (sym (until_stop _ _ (store_in p) (λ x. z (a ∙ x))) ∙ ap (λ (cs : List Call). until_refused cs (store_in p)) (sym (row_first h e)) ∙ g.is)
 
-  pub row_end : (row : ℕ) (ends : List ℕ) (i start : ℕ) (all : List Call) (s t : Store) → length ends ≤ i → Going (row_calls f traj holes planes row start (drop i ends)) all s t → after 0 s ≡ until_refused all t
+  pub row_end : (row : ℕ) (ends : List ℕ) (i start : ℕ) (all : List Call) (p o : Parts) → length ends ≤ i → Going (row_calls f traj holes planes row start (drop i ends)) all p o → after 0 (store_in p) ≡ until_refused all (store_in o)
   unfolding row_calls until_refused
-  row_end row ends i start all s t h g = (rw (drop_of_length-le ends {i = i} h) at g.is)
+  row_end row ends i start all p o h g = (rw (drop_of_length-le ends {i = i} h) at g.is)
 
   -- ---- the superblock rows of the frame
-  module _ (ends : List ℕ) (i row n : ℕ) (all : List Call) (s u t : Store) where
+  module _ (ends : List ℕ) (i row n : ℕ) (all : List Call) (p q o : Parts) where
     rows_first : i < rows_of f → row ≡ i * side_of f → rows_calls f traj holes planes ends (rows_of f - i) i ≡ row_calls f traj holes planes row 0 ends ++ rows_calls f traj holes planes ends (rows_of f - (i + 1)) (i + 1)
     unfolding rows_calls
     rows_first h r = let e : rows_of f - i ≡ suc (rows_of f - (i + 1)) = omega arith in rw (e, r)
 
-    pub rows_on : i < rows_of f → row ≡ i * side_of f → after n u ≡ until_refused (row_calls f traj holes planes row 0 ends) s → n ≡ 0 → SameLengths u s
-        → Going (rows_calls f traj holes planes ends (rows_of f - i) i) all s t → Going (rows_calls f traj holes planes ends (rows_of f - (i + 1)) (i + 1)) all u t
+    pub rows_on : i < rows_of f → row ≡ i * side_of f → after n (store_in q) ≡ until_refused (row_calls f traj holes planes row 0 ends) (store_in p) → n ≡ 0 → IsSameParts q p
+        → Going (rows_calls f traj holes planes ends (rows_of f - i) i) all p o → Going (rows_calls f traj holes planes ends (rows_of f - (i + 1)) (i + 1)) all q o
     rows_on h r l z k g =
         record {
-          like = like_trans k g.like;
-          is = sym (ap (λ (cs : List Call). until_refused cs s) (rows_first h r) ∙ past_first _ _ s u n l z) ∙ g.is;
+          like = same_parts_after k g.like;
+          is = sym (ap (λ (cs : List Call). until_refused cs (store_in p)) (rows_first h r) ∙ past_first _ _ (store_in p) (store_in q) n l z) ∙ g.is;
         }
 
-    pub rows_stop : i < rows_of f → row ≡ i * side_of f → after n u ≡ until_refused (row_calls f traj holes planes row 0 ends) s → (n ≡ 0 → ⊥)
-        → Going (rows_calls f traj holes planes ends (rows_of f - i) i) all s t → after n u ≡ until_refused all t
-    rows_stop h r l z g = sym (ap (λ (cs : List Call). until_refused cs s) (rows_first h r) ∙ in_first _ _ s u n l z) ∙ g.is
+    pub rows_stop : i < rows_of f → row ≡ i * side_of f → after n (store_in q) ≡ until_refused (row_calls f traj holes planes row 0 ends) (store_in p) → (n ≡ 0 → ⊥)
+        → Going (rows_calls f traj holes planes ends (rows_of f - i) i) all p o → after n (store_in q) ≡ until_refused all (store_in o)
+    rows_stop h r l z g = sym (ap (λ (cs : List Call). until_refused cs (store_in p)) (rows_first h r) ∙ in_first _ _ (store_in p) (store_in q) n l z) ∙ g.is
 
-  pub rows_end : (ends : List ℕ) (i : ℕ) (all : List Call) (s t : Store) → rows_of f ≤ i → Going (rows_calls f traj holes planes ends (rows_of f - i) i) all s t → after 0 s ≡ until_refused all t
+  pub rows_end : (ends : List ℕ) (i : ℕ) (all : List Call) (p o : Parts) → rows_of f ≤ i → Going (rows_calls f traj holes planes ends (rows_of f - i) i) all p o → after 0 (store_in p) ≡ until_refused all (store_in o)
   unfolding rows_calls until_refused
-  rows_end ends i all s t h g = let e : rows_of f - i ≡ 0 = omega arith in (rw e at g.is)
+  rows_end ends i all p o h g = let e : rows_of f - i ≡ 0 = omega arith in (rw e at g.is)
 
 -- the number of superblock rows, as code works it out
 pub rows_are : (f : Frame) (h d : ℕ) → h ≡ high_of f → d ≡ side_of f → (h + (d - 1)) / d ≡ rows_of f

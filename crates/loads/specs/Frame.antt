@@ -3,9 +3,9 @@ use Rattle.std.specs.Prelude.{◌≡◌, Bool, true, cond, List, [], ◌∷◌, 
 use Rattle.frame.specs.declared.Frame.{Frame}
 use Rattle.store.specs.Store.{Store}
 use Rattle.store.specs.Calls.{called, as_listed}
+use Rattle.load.specs.Asked.{asked_of, call_of}
 use Rattle.load.specs.Load.{Call, side_of, high_of}
 use Rattle.load.specs.Calls.{answer, load}
-use Rattle.checks.specs.Answer.{call_of}
 
 -- H / S superblock rows, rounded up
 abbrev pub rows_of : Frame → ℕ
@@ -15,7 +15,7 @@ module _ (f : Frame) (traj holes : Bool) (planes : List ℤ) where
   -- the calls of a superblock row, from left to right: a tile column begins where the one before it ends
   unfoldable pub row_calls : ℕ → ℕ → List ℕ → List Call
   row_calls row start [] = []
-  row_calls row start (end ∷ ends) = call_of f true traj holes start end row (row + side_of f) planes ∷ row_calls row end ends
+  row_calls row start (end ∷ ends) = call_of f (asked_of true traj holes start end row (row + side_of f)) planes ∷ row_calls row end ends
 
   -- those of n superblock rows from row i on, downwards
   unfoldable pub rows_calls : List ℕ → ℕ → ℕ → List Call

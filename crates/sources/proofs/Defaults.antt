@@ -10,7 +10,7 @@ use Rattle.loops.specs.Seven.{seven}
 use Rattle.entry.specs.declared.Source.{Source}
 use Rattle.frame.specs.Frame.{no_source}
 use Rattle.store.specs.Program.{Prog, when, each_by}
-use Rattle.tile.specs.declared.Tile.{Tile}
+use Rattle.tile.specs.Geometry.{Geometry}
 use Rattle.project.specs.Project.{saved_at, saved_ref, saved_mv, to_source, to_reference, right_side, takes, put_trajs, put_mv, project_mv, sample, project_source}
 use Rattle.project.specs.Tested.{row_fine}
 use Rattle.checks.specs.Code.{is_fine}
@@ -26,7 +26,7 @@ zeros (suc (suc (suc (suc (suc zero))))) = refl
 zeros (suc (suc (suc (suc (suc (suc zero)))))) = refl
 zeros (suc (suc (suc (suc (suc (suc (suc b))))))) = refl
 
-module _ (t : Tile) (traj : Bool) (planes : List ℤ) where
+module _ (t : Geometry) (traj : Bool) (planes : List ℤ) where
   module _ (b : ℕ) (v : Mv) where
     source_same : to_source no_source b v ≡ to_source bare b v
     unfolding to_source
@@ -73,7 +73,7 @@ module _ (t : Tile) (traj : Bool) (planes : List ℤ) where
     source_at_lem l i = same_default (project_source t traj present planes) l i bare no_source bare_source
 
 -- the saved blocks of a source that is looked at
-pub looked : (t : Tile) (planes : List ℤ) (present : Bool) (s : Source) → is_fine t planes present s ≡ true → (not (eq_z s.ref2cur (negsuc 31)) && present) ≡ true → row_fine t planes s ≡ true
+pub looked : (t : Geometry) (planes : List ℤ) (present : Bool) (s : Source) → is_fine t planes present s ≡ true → (not (eq_z s.ref2cur (negsuc 31)) && present) ≡ true → row_fine t planes s ≡ true
 looked t planes present s = go (eq_z s.ref2cur (negsuc 31)) present
   where
     go : (p q : Bool) → (p || not q || row_fine t planes s) ≡ true → (not p && q) ≡ true → row_fine t planes s ≡ true

@@ -1,113 +1,114 @@
-// The groups of a load's passes, each under its switch.
+// The groups of a load's passes. Each switch stands in a function of its own: where an `if` joins,
+// what its arms did to the store is not known to the calls after it.
 #![tactic(auto)]
 
-ghost use Rattle.std.specs.Prelude.{◌≡◌, false, not, ◌*◌, ◌≤◌, eqb, ltb};
-ghost use Rattle.mv.specs.Projection.{reciprocals};
-ghost use Rattle.store.specs.Store.{Store, pack, with_field, with_traj};
+ghost use Rattle.std.specs.Prelude.{◌≡◌, false, not, List, ◌*◌, ◌≤◌, eqb, ltb, ℤ};
+ghost use Rattle.store.specs.Lent.{IsSamePairs, with_trajs, stored_trajs};
+ghost use Rattle.store.specs.Store.{Store};
 ghost use Rattle.store.specs.Program.{run, when, each};
+ghost use Rattle.tile.specs.Lent.{IsTrajHeld, IsMapHeld};
 ghost use Rattle.tile.specs.Owner.{owns};
-ghost use Rattle.tile.specs.Sound.{Sound, FieldHeld, TrajHeld, MapHeld};
+ghost use Rattle.tile.specs.Tiles.{geometry};
 ghost use Rattle.field.specs.Field.{copy_above};
+ghost use Rattle.field.specs.Lent.{IsHeld, IsSameField, stored};
 ghost use Rattle.traj.specs.Traj.{empty_trajs, fill_gap_traj};
-ghost use Rattle.load.specs.Load.{Call, tip_passes, gap_passes};
+ghost use Rattle.load.specs.Asked.{call_of};
+ghost use Rattle.load.specs.Load.{tip_passes, gap_passes};
 
+use field::Field;
+use frame::Frame;
+use load::Asked;
+use store::Pairs;
 use tile::Tile;
 
-// Row mode: the three rows above.
-pub fn copy_rows(
-    field_y: &mut [i32],
-    field_x: &mut [i32],
-    field_ref: &mut [u8],
-    t: Tile,
-    whole_frame: bool,
-)
-    requires { Sound t × (whole_frame ≡ false → t.offset ≡ 3 * t.stride) × FieldHeld t field_y.old field_x.old field_ref.old }
-    ensures { (s : Store) → with_field s field_y.new field_x.new field_ref.new
-        ≡ run (owns t) (when (not whole_frame) (copy_above t)) (with_field s field_y.old field_x.old field_ref.old) }
+/// Row mode: the three rows above. In whole-frame mode they stand in the field already.
+#[tactic(auto, using(field::proofs::Borrows::same_field))]
+pub fn copy_rows(field: &mut Field<'_>, t: &Tile, whole_frame: bool)
+    requires row_mode { whole_frame ≡ false → t.now.offset ≡ 3 * t.now.stride }
+    requires held { IsHeld (geometry t.now) field.old }
+    ensures same_borrow { IsSameField field.new field.old }
+    ensures stored { (s : Store) → stored s field.new
+        ≡ run (owns (geometry t.now)) (when (not whole_frame) (copy_above (geometry t.now))) (stored s field.old) }
 {
     if whole_frame {
         return;
     }
-    field::copy_above(field_y, field_x, field_ref, t);
+    field::copy_above(field, t);
 }
 
-// Trajectories and maps are emptied where trajectories are on.
+/// Trajectories and maps are emptied where trajectories are on.
+#[tactic(auto, using(store::proofs::Borrows::same_pairs))]
 pub fn clear_trajs(
-    traj_y: &mut [i32],
-    traj_x: &mut [i32],
-    map_y: &mut [i8],
-    map_x: &mut [i8],
-    t: Tile,
+    trajectories: &mut Pairs<'_, i32>,
+    maps: &mut Pairs<'_, i8>,
+    t: &Tile,
     traj: bool,
 )
-    requires { Sound t × TrajHeld t traj_y.old traj_x.old × MapHeld t map_y.old map_x.old }
-    ensures { (s : Store) → with_traj s traj_y.new traj_x.new map_y.new map_x.new
-        ≡ run (owns t) (when traj (empty_trajs t)) (with_traj s traj_y.old traj_x.old map_y.old map_x.old) }
+    requires trajectories { IsTrajHeld (geometry t.now) trajectories.old }
+    requires maps { IsMapHeld (geometry t.now) maps.old }
+    ensures same_trajectories { IsSamePairs trajectories.new trajectories.old }
+    ensures same_maps { IsSamePairs maps.new maps.old }
+    ensures stored { (s : Store) → stored_trajs s trajectories.new maps.new
+        ≡ run (owns (geometry t.now)) (when traj (empty_trajs (geometry t.now))) (stored_trajs s trajectories.old maps.old) }
 {
     if !traj {
         return;
     }
-    traj::empty_trajs(traj_y, traj_x, map_y, map_x, t);
+    traj::empty_trajs(trajectories, maps, t);
 }
 
-// With TIP mode not 0.
-pub fn tip_passes(
-    field_y: &mut [i32],
-    field_x: &mut [i32],
-    field_ref: &mut [u8],
-    table: &[u16; 32],
-    t: Tile,
-    mode: u8,
-    delta: i8,
-    holes: bool,
-)
-    requires { Sound t × FieldHeld t field_y.old field_x.old field_ref.old × (table.now ≡ reciprocals) }
-    ensures { (c : Call) → c.setup.tip_frame_mode ≡ mode → c.setup.tip.delta ≡ delta → c.holes ≡ holes
-        → (s : Store) → with_field s field_y.new field_x.new field_ref.new
-        ≡ run (owns t) (when (not (eqb c.setup.tip_frame_mode 0)) (tip_passes t c)) (with_field s field_y.old field_x.old field_ref.old) }
+/// With TIP mode not 0: the field is projected to the TIP distance, and where holes are filled,
+/// filled and smoothed.
+#[tactic(auto, using(field::proofs::Borrows::same_field))]
+pub fn tip_passes(field: &mut Field<'_>, t: &Tile, setup: &Frame, asked: Asked)
+    requires held { IsHeld (geometry t.now) field.old }
+    ensures same_borrow { IsSameField field.new field.old }
+    ensures stored { (p : List ℤ) (s : Store) → let c = call_of setup.now asked p in stored s field.new
+        ≡ run (owns (geometry t.now)) (when (not (eqb c.setup.tip_frame_mode 0)) (tip_passes (geometry t.now) c)) (stored s field.old) }
 {
-    if mode == 0 {
+    if setup.tip_frame_mode == 0 {
         return;
     }
-    field::tip_projection(field_y, field_x, field_ref, table, t, delta);
-    if !holes {
+    let delta = setup.tip.delta;
+    field::tip_projection(field, t, delta);
+    if !asked.holes {
         return;
     }
-    holes::fill_holes(field_y, field_x, field_ref, t, delta);
-    smooth::smoothen(field_y, field_x, field_ref, t, delta);
+    holes::fill_holes(field, t, delta);
+    smooth::smoothen(field, t, delta);
 }
 
-// The trajectories of the slots in use.
-pub fn fill_gap_trajs(traj_y: &mut [i32], traj_x: &mut [i32], t: Tile, n_refs: usize)
-    requires { Sound t × TrajHeld t traj_y.old traj_x.old × (n_refs ≤ 7) × (t.step ≡ 2) }
-    ensures { (s : Store) → with_traj s traj_y.new traj_x.new s.map_y s.map_x
-        ≡ run (owns t) (each 0 n_refs (fill_gap_traj t)) (with_traj s traj_y.old traj_x.old s.map_y s.map_x) }
+/// The trajectories of the slots in use.
+pub fn fill_gap_trajs(trajectories: &mut Pairs<'_, i32>, t: &Tile, n_refs: usize)
+    requires slots { n_refs ≤ 7 }
+    requires held { IsTrajHeld (geometry t.now) trajectories.old }
+    requires step { t.now.step ≡ 2 }
+    ensures same_borrow { IsSamePairs trajectories.new trajectories.old }
+    ensures stored { (s : Store) → with_trajs s trajectories.new
+        ≡ run (owns (geometry t.now)) (each 0 n_refs (fill_gap_traj (geometry t.now))) (with_trajs s trajectories.old) }
 {
     for n in 0..n_refs {
-        traj::fill_gap_traj(traj_y, traj_x, t, n);
+        traj::fill_gap_traj(trajectories, t, n);
     }
 }
 
-// With step 2.
-pub fn gap_passes(
-    field_y: &mut [i32],
-    field_x: &mut [i32],
-    field_ref: &mut [u8],
-    traj_y: &mut [i32],
-    traj_x: &mut [i32],
-    table: &[u16; 32],
-    t: Tile,
-    n_refs: usize,
-)
-    requires { Sound t × FieldHeld t field_y.old field_x.old field_ref.old × TrajHeld t traj_y.old traj_x.old × (n_refs ≤ 7) × (table.now ≡ reciprocals) }
-    ensures { (c : Call) → c.setup.n_refs ≡ n_refs
-        → (s : Store) → pack field_y.new field_x.new field_ref.new traj_y.new traj_x.new s.map_y s.map_x
-        ≡ run (owns t) (when (ltb 1 t.step) (gap_passes t c))
-        (pack field_y.old field_x.old field_ref.old traj_y.old traj_x.old s.map_y s.map_x) }
+/// With step 2: the gaps between samples, of the trajectories whether they are on or not, and of
+/// the field.
+#[tactic(auto, using(field::proofs::Borrows::same_field, store::proofs::Borrows::same_pairs))]
+pub fn gap_passes(field: &mut Field<'_>, trajectories: &mut Pairs<'_, i32>, t: &Tile, setup: &Frame)
+    requires slots { setup.now.n_refs ≤ 7 }
+    requires field { IsHeld (geometry t.now) field.old }
+    requires trajectories { IsTrajHeld (geometry t.now) trajectories.old }
+    ensures same_field { IsSameField field.new field.old }
+    ensures same_trajectories { IsSamePairs trajectories.new trajectories.old }
+    ensures stored { (a : Asked) (p : List ℤ) (s : Store) → let c = call_of setup.now a p in
+        stored (with_trajs s trajectories.new) field.new
+        ≡ run (owns (geometry t.now)) (when (ltb 1 t.now.step) (gap_passes (geometry t.now) c)) (stored (with_trajs s trajectories.old) field.old) }
 {
-    if t.step < 2 {
+    let step = t.step;
+    if step < 2 {
         return;
     }
-    fill_gap_trajs(traj_y, traj_x, t, n_refs);
-    gaps::fill_gap_proj(field_y, field_x, field_ref, table, t);
+    fill_gap_trajs(trajectories, t, setup.n_refs);
+    gaps::fill_gap_proj(field, t);
 }

@@ -2,78 +2,38 @@
 #![tactic(auto)]
 
 ghost use Rattle.std.specs.Prelude.{◌≡◌};
-ghost use Rattle.store.specs.Store.{pack};
+ghost use Rattle.levels.specs.Answer.{refusal_of};
 ghost use Rattle.store.specs.Calls.{called};
+ghost use Rattle.store.specs.Lent.{IsSamePairs};
+ghost use Rattle.field.specs.Lent.{IsSameField, store_of};
+ghost use Rattle.load.specs.Asked.{call_of};
 ghost use Rattle.load.specs.Calls.{answer, load};
-ghost use Rattle.checks.specs.Answer.{call_of, number_of};
 
-use checks::LoadAnswer;
+use field::Field;
 use frame::Frame;
+use levels::Refusal;
+use load::Asked;
+use store::Pairs;
 
-// Nothing is written before the last test has passed.
+/// Loads a tile into the lent parts of a store, or says why not (refusals 9 to 12). Nothing is
+/// written before the last test has passed.
+#[tactic(auto, using(field::proofs::Borrows::same_field, store::proofs::Borrows::same_pairs))]
 pub fn load_tmvs(
-    field_y: &mut [i32],
-    field_x: &mut [i32],
-    field_ref: &mut [u8],
-    traj_y: &mut [i32],
-    traj_x: &mut [i32],
-    map_y: &mut [i8],
-    map_x: &mut [i8],
+    field: &mut Field<'_>,
+    trajectories: &mut Pairs<'_, i32>,
+    maps: &mut Pairs<'_, i8>,
     planes: &[i8],
-    setup: Frame,
-    whole_frame: bool,
-    traj: bool,
-    holes: bool,
-    col_start: usize,
-    col_end: usize,
-    row_start: usize,
-    row_end: usize,
-) -> LoadAnswer
-    ensures { let c = call_of setup whole_frame traj holes col_start col_end row_start row_end planes.now in
-        let s = pack field_y.old field_x.old field_ref.old traj_y.old traj_x.old map_y.old map_x.old in
-        (number_of result ≡ answer c s)
-        × (pack field_y.new field_x.new field_ref.new traj_y.new traj_x.new map_y.new map_x.new
-        ≡ called answer load c s) }
+    setup: &Frame,
+    asked: Asked,
+) -> Result<(), Refusal>
+    ensures same_field { IsSameField field.new field.old }
+    ensures same_trajectories { IsSamePairs trajectories.new trajectories.old }
+    ensures same_maps { IsSamePairs maps.new maps.old }
+    ensures answer { refusal_of result ≡ answer (call_of setup.now asked planes.now) (store_of field.old trajectories.old maps.old) }
+    ensures stored { store_of field.new trajectories.new maps.new
+        ≡ called answer load (call_of setup.now asked planes.now) (store_of field.old trajectories.old maps.old) }
 {
-    let ys = field_y.len();
-    let xs = field_x.len();
-    let refs = field_ref.len();
-    let map_ys = map_y.len();
-    let map_xs = map_x.len();
-    let said = checks::answer_of(
-        planes,
-        traj_y,
-        traj_x,
-        ys,
-        xs,
-        refs,
-        map_ys,
-        map_xs,
-        setup,
-        whole_frame,
-        col_start,
-        col_end,
-        row_start,
-        row_end,
-    );
-    if checks::number(said) != 0 {
-        return said;
-    }
-    let t = checks::tile_of(setup, whole_frame, col_start, col_end, row_start, row_end);
-    load_tile::load_tile(
-        field_y,
-        field_x,
-        field_ref,
-        traj_y,
-        traj_x,
-        map_y,
-        map_x,
-        planes,
-        t,
-        setup,
-        whole_frame,
-        traj,
-        holes,
-    );
-    said
+    let t = checks::check_load(setup, asked, planes, field, trajectories, maps)?;
+    load_tile::load_tile(field, trajectories, maps, planes, &t, setup, asked);
+    Ok(())
 }

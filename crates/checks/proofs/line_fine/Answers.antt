@@ -1,6 +1,7 @@
 -- `checks::line_fine` meets its contract. Assumes nothing.
 use Rattle.std.proofs.Common.{ap, ◌∙◌, ◌≡◌, refl, Bool, ℕ, ◌+◌, ◌-◌, ◌*◌, ◌/◌, ◌≤◌, ◌<◌, arith}
 use Rattle.loops.proofs.Same.{turn_below}
+use Rattle.tile.specs.Tiles.{geometry}
 use Rattle.tile.proofs.Places.{small}
 use Rattle.project.specs.Project.{saved_at, saved_ref, saved_mv}
 use Rattle.project.specs.Tested.{all_below, block_fine}
@@ -10,27 +11,27 @@ use Rattle.checks.proofs.line_fine.Goals.{In-loop-i, Start}
 use Rattle.checks.proofs.line_fine.Goals as goal
 
 -- what is known where the row begins, and of a block of it
-row : (s : Start) → let t = s.args.t in (s.args.slot * t.high + s.args.y < 57344) × ((s.args.slot * t.high + s.args.y) * t.stride + t.stride ≤ 7 * (t.high * t.stride))
-row s = let t = s.args.t in let k = s.requires.0 in let w = line_within t s.args.slot s.args.y s.requires.2 s.requires.4 in (omega (arith, w.0, k.high_low), w.1)
+row : (s : Start) → let t = s.args.t.now in (s.args.slot * t.high + s.args.y < 57344) × ((s.args.slot * t.high + s.args.y) * t.stride + t.stride ≤ 7 * (t.high * t.stride))
+row s = let t = s.args.t.now in let k = t.sound in let w = line_within (geometry t) s.args.slot s.args.y s.requires.inside.0 s.requires.inside.2 in (omega (arith, w.0, k.high_low), w.1)
 
-col : (c : In-loop-i) → let t = c.args.t in c.loop-i.i * t.step < t.stride
+col : (c : In-loop-i) → let t = c.args.t.now in c.loop-i.i * t.step < t.stride
 col c =
-    let t = c.args.t in let k = c.requires.0 in
-    omega (arith, turn_below t.step 0 t.wide c.loop-i.i (small t k).0 (rw c.count-n.ensures at c.loop-i-test.true), k.wide)
+    let t = c.args.t.now in let k = t.sound in
+    omega (arith, turn_below t.step 0 t.wide c.loop-i.i (small (geometry t) k).0 (rw c.count-n.ensures at c.loop-i-test.true), k.wide)
 
 pub count-n-requires : goal.count-n-requires
-count-n-requires c = let k = c.requires.0 in (k, omega arith, omega (arith, k.wide, k.stride_low))
+count-n-requires c = let k = c.args.t.now.sound in (omega arith, omega (arith, k.wide, k.stride_low))
 
 pub loop-i-init : goal.loop-i-init
 unfolding all_below
 loop-i-init c = (omega arith, refl)
 
 pub block_fine-ok-requires : goal.block_fine-ok-requires
-block_fine-ok-requires c = (omega (arith, col c, row (goal.at.block_fine-ok-requires c).Start, c.requires.1), c.requires.3)
+block_fine-ok-requires c = (omega (arith, col c, row (goal.at.block_fine-ok-requires c).Start, c.requires.planes), c.requires.inside.1)
 
 pub loop-i-preserved : goal.loop-i-preserved
 loop-i-preserved c =
-    let l = c.loop-i in let a = c.args in let t = a.t in
+    let l = c.loop-i in let a = c.args in let t = a.t.now in
     let start : ℕ = (a.slot * t.high + a.y) * t.stride in
     let p : ℕ → Bool = λ k. let at = 6 * (start + k * t.step) in block_fine (saved_ref a.planes.now at a.dir) (saved_mv a.planes.now at a.dir) in
     (omega arith, all_turn p l.i l.ok _ l.invariant.1 c.block_fine-ok.ensures)
@@ -38,7 +39,7 @@ loop-i-preserved c =
 pub returns : goal.returns
 unfolding saved_at
 returns c =
-    let l = c.loop-i in let a = c.args in let t = a.t in
+    let l = c.loop-i in let a = c.args in let t = a.t.now in
     let start : ℕ = (a.slot * t.high + a.y) * t.stride in
     let p : ℕ → Bool = λ k. let at = 6 * (start + k * t.step) in block_fine (saved_ref a.planes.now at a.dir) (saved_mv a.planes.now at a.dir) in
     let z : t.wide - 0 ≡ t.wide = omega arith in

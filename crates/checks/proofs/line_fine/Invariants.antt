@@ -6,4 +6,4 @@ use Rattle.checks.proofs.line_fine.Given as goal
 
 abbrev pub invariant-loop-i : goal.invariant-loop-i
 invariant-loop-i l =
-    (l.i ≤ l.n) × (l.ok ≡ all_below l.i (λ k. let at = 6 * (l.start + k * l.step) in block_fine (saved_ref l.planes at l.dir) (saved_mv l.planes at l.dir)))
+    (l.i ≤ l.n) × (l.ok ≡ all_below l.i (λ k. let at = 6 * (l.start + k * l.t.step) in block_fine (saved_ref l.planes at l.dir) (saved_mv l.planes at l.dir)))

@@ -4,5 +4,5 @@ use Rattle.frame.specs.Frame.{no_source}
 use Rattle.project.specs.Tested.{all_below, source_in_range}
 use Rattle.checks.proofs.sources_in_range.Given as goal
 
-abbrev pub invariant-loop-i : goal.invariant-loop-i
-invariant-loop-i l = (l.i ≤ l.n) × (l.ok ≡ all_below l.i (λ k. source_in_range (get_or l.q.mfmv k no_source)))
+abbrev pub invariant-loop-n : goal.invariant-loop-n
+invariant-loop-n l = (l.n ≤ l.sources.n_mfmvs) × (l.ok ≡ all_below l.n (λ k. source_in_range (get_or l.sources.mfmv k no_source)))

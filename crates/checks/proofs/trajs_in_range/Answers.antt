@@ -10,13 +10,10 @@ pub loop-i-init : goal.loop-i-init
 unfolding all_below
 loop-i-init c = (omega arith, refl)
 
-pub cell_at-requires : goal.cell_at-requires
-cell_at-requires c = (omega arith, omega arith)
-
 pub loop-i-preserved : goal.loop-i-preserved
 loop-i-preserved c =
-    let l = c.loop-i in let a = c.args in
-    (omega arith, all_turn (λ k. traj_in_range (vec (get_or a.traj_y.now k (pos 0)) (get_or a.traj_x.now k (pos 0)))) l.i l.ok _ l.invariant.1 (c.traj_in_range-ok.ensures ∙ ap traj_in_range c.cell_at.ensures))
+    let l = c.loop-i in let p = c.args.trajectories.now in
+    (omega arith, all_turn (λ k. traj_in_range (vec (get_or p.y.now k (pos 0)) (get_or p.x.now k (pos 0)))) l.i l.ok _ l.invariant.1 (c.traj_in_range-ok.ensures ∙ ap traj_in_range c.vector.ensures))
 
 pub returns : goal.returns
 returns c = let l = c.loop-i in all_end _ _ l.i l.ok l.invariant.0 c.loop-i-test.false l.invariant.1

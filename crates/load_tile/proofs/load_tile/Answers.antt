@@ -1,38 +1,67 @@
 -- `load_tile::load_tile` meets its contract. Assumes nothing.
-use Rattle.std.proofs.Common.{rules, sym, ap, ◌∙◌, SFits, w8}
-use mir.ValLaws.{to_z-of_z}
-use Rattle.frame.specs.declared.Frame.{Frame}
-use Rattle.store.proofs.Lent.{two, like_two}
-use Rattle.field.proofs.Lists.{lists}
-use Rattle.traj.proofs.Lists.{trajs_held}
-use Rattle.source.proofs.Rounds.{still_held}
-use Rattle.store.specs.Store.{pack}
-use Rattle.load_tile.proofs.Order.{tile_loaded}
-use Rattle.load_tile.proofs.load_tile.Goals.{After-struct_told-1}
-use Rattle.field.proofs.Lists as field_lists
+use Rattle.store.proofs.Borrows.{same_pairs_after}
+use Rattle.tile.specs.Tiles.{geometry}
+use Rattle.tile.proofs.Lent.{traj_held_after, map_held_after}
+use Rattle.field.specs.Lent.{IsSameField, store_of}
+use Rattle.field.proofs.Borrows.{same_after, held_after}
+use Rattle.load.specs.Asked.{call_of}
+use Rattle.load_tile.proofs.Order.{in_order}
+use Rattle.load_tile.proofs.load_tile.Goals.{After-empty_field, After-project_sources, After-tip_passes}
 use Rattle.load_tile.proofs.load_tile.Goals as goal
 
-delta_fits : (c : After-struct_told-1) → SFits w8 c.args.setup.tip.delta
-delta_fits c = search rules
+-- the field is the one that was lent
+emptied : (c : After-empty_field) → IsSameField c.empty_field.new.field c.args.field.now
+emptied c = same_after c.empty_field.ensures.same_borrow c.copy_rows.ensures.same_borrow
 
-pub project_sources-requires : goal.project_sources-requires
-project_sources-requires c =
-    let a = c.args in let k1 = c.copy_rows in let k2 = c.empty_field in let k3 = c.clear_trajs in
-    record { sound = (c.requires.sound.0, c.requires.sound.2, c.requires.sound.3); field_held = (still_held a.t _ (pack a.field_y.now a.field_x.now a.field_ref.now a.traj_y.now a.traj_x.now a.map_y.now a.map_x.now) (record { field_y = k2.auto.field_y ∙ k1.auto.field_y; field_x = k2.auto.field_x ∙ k1.auto.field_x; field_ref = k1.auto.field_ref; traj_y = k3.auto.traj_y; traj_x = k3.auto.traj_x; map_y = k3.auto.map_y; map_x = k3.auto.map_x }) c.requires.field_held) }
+projected : (c : After-project_sources) → IsSameField c.project_sources.new.field c.args.field.now
+projected c = same_after c.project_sources.ensures.same_field (same_after c.empty_field.ensures.same_borrow c.copy_rows.ensures.same_borrow)
+
+tipped : (c : After-tip_passes) → IsSameField c.tip_passes.new.field c.args.field.now
+tipped c = same_after c.tip_passes.ensures.same_borrow (same_after c.project_sources.ensures.same_field (same_after c.empty_field.ensures.same_borrow c.copy_rows.ensures.same_borrow))
+
+pub empty_field-requires-clause-y : goal.empty_field-requires-clause-y
+empty_field-requires-clause-y c = (held_after (geometry c.args.t.now) c.copy_rows.ensures.same_borrow c.requires.field).y
+
+pub empty_field-requires-clause-x : goal.empty_field-requires-clause-x
+empty_field-requires-clause-x c = (held_after (geometry c.args.t.now) c.copy_rows.ensures.same_borrow c.requires.field).x
+
+pub project_sources-requires-clause-field : goal.project_sources-requires-clause-field
+project_sources-requires-clause-field c =
+    held_after (geometry c.args.t.now) (emptied (goal.at.project_sources-requires-clause-field c).After-empty_field) c.requires.field
+
+pub project_sources-requires-clause-trajectories : goal.project_sources-requires-clause-trajectories
+project_sources-requires-clause-trajectories c = traj_held_after (geometry c.args.t.now) c.clear_trajs.ensures.same_trajectories c.requires.trajectories
+
+pub project_sources-requires-clause-maps : goal.project_sources-requires-clause-maps
+project_sources-requires-clause-maps c = map_held_after (geometry c.args.t.now) c.clear_trajs.ensures.same_maps c.requires.maps
 
 pub tip_passes-requires : goal.tip_passes-requires
-tip_passes-requires c =
-    let a = c.args in let k1 = c.copy_rows in let k2 = c.empty_field in let k4 = c.project_sources in
-    (c.requires.sound.0, field_lists.still_held a.t _ (lists a.field_y.now a.field_x.now a.field_ref.now) (record { y = k4.auto.field_y ∙ k2.auto.field_y ∙ k1.auto.field_y; x = k4.auto.field_x ∙ k2.auto.field_x ∙ k1.auto.field_x; ref = k4.auto.field_ref ∙ k1.auto.field_ref }) c.requires.field_held.0, c.div_mult_table-table.ensures)
+tip_passes-requires c = record { held = held_after (geometry c.args.t.now) (projected (goal.at.tip_passes-requires c).After-project_sources) c.requires.field }
 
-pub gap_passes-requires : goal.gap_passes-requires
-gap_passes-requires c =
-    let a = c.args in let k1 = c.copy_rows in let k2 = c.empty_field in let k3 = c.clear_trajs in let k4 = c.project_sources in let k5 = c.tip_passes in
-    (c.requires.sound.0, field_lists.still_held a.t _ (lists a.field_y.now a.field_x.now a.field_ref.now) (record { y = k5.auto.field_y ∙ k4.auto.field_y ∙ k2.auto.field_y ∙ k1.auto.field_y; x = k5.auto.field_x ∙ k4.auto.field_x ∙ k2.auto.field_x ∙ k1.auto.field_x; ref = k5.auto.field_ref ∙ k4.auto.field_ref ∙ k1.auto.field_ref }) c.requires.field_held.0, trajs_held a.t _ (two a.traj_y.now a.traj_x.now) (like_two (k4.auto.traj_y ∙ k3.auto.traj_y) (k4.auto.traj_x ∙ k3.auto.traj_x)) c.requires.field_held.1, c.requires.sound.4, c.div_mult_table-table.ensures)
+pub gap_passes-requires-clause-field : goal.gap_passes-requires-clause-field
+gap_passes-requires-clause-field c = held_after (geometry c.args.t.now) (tipped (goal.at.gap_passes-requires-clause-field c).After-tip_passes) c.requires.field
 
-pub returns : goal.returns
-returns c =
-    let a = c.args in let k1 = c.copy_rows in let k2 = c.empty_field in let k3 = c.clear_trajs in let k4 = c.project_sources in let k5 = c.tip_passes in let k6 = c.gap_passes in
-    λ q e. tile_loaded a.t q a.whole_frame a.traj e.whole_frame e.traj _ _ _ _ _ _ _ _ _ _ _ _ _ _ _ _ _ _ _ _ _ _ _ _ _ _ _ _ _ _ _
-    k1.ensures k2.ensures k3.ensures (k4.ensures q (ap (λ (f : Frame). f.sources) e.setup) (ap (λ (f : Frame). f.rp_ref) e.setup) e.traj e.planes)
-    (k5.ensures q (ap (λ (f : Frame). f.tip_frame_mode) e.setup) (ap (λ (f : Frame). f.tip.delta) e.setup ∙ sym (to_z-of_z w8 a.setup.tip.delta (delta_fits (goal.at.returns c).After-struct_told-1))) e.holes) (k6.ensures q (ap (λ (f : Frame). f.n_refs) e.setup))
+pub gap_passes-requires-clause-trajectories : goal.gap_passes-requires-clause-trajectories
+gap_passes-requires-clause-trajectories c =
+    traj_held_after (geometry c.args.t.now) (same_pairs_after c.project_sources.ensures.same_trajectories c.clear_trajs.ensures.same_trajectories) c.requires.trajectories
+
+pub returns-clause-same_field : goal.returns-clause-same_field
+returns-clause-same_field c = same_after c.gap_passes.ensures.same_field (tipped (goal.at.returns-clause-same_field c).After-tip_passes)
+
+pub returns-clause-same_trajectories : goal.returns-clause-same_trajectories
+returns-clause-same_trajectories c =
+    same_pairs_after c.gap_passes.ensures.same_trajectories (same_pairs_after c.project_sources.ensures.same_trajectories c.clear_trajs.ensures.same_trajectories)
+
+pub returns-clause-same_maps : goal.returns-clause-same_maps
+returns-clause-same_maps c = same_pairs_after c.project_sources.ensures.same_maps c.clear_trajs.ensures.same_maps
+
+pub returns-clause-stored : goal.returns-clause-stored
+returns-clause-stored c =
+    let a = c.args in let p = a.planes.now in
+    let k1 = c.copy_rows in let k2 = c.empty_field in let k3 = c.clear_trajs in let k4 = c.project_sources in let k5 = c.tip_passes in let k6 = c.gap_passes in
+    let u₀ = store_of a.field.now a.trajectories.now a.maps.now in
+    let u₁ = store_of k1.new.field a.trajectories.now a.maps.now in
+    let u₂ = store_of k2.new.field a.trajectories.now a.maps.now in
+    let u₄ = store_of k4.new.field k4.new.trajectories k4.new.maps in
+    let u₅ = store_of k5.new.field k4.new.trajectories k4.new.maps in
+    in_order (geometry a.t.now) (call_of a.setup.now a.asked p) u₀ u₁ u₂ _ u₄ u₅ _ (k1.ensures.stored u₀) (k2.ensures.stored u₁) (k3.ensures.stored u₂) k4.ensures.stored (k5.ensures.stored p u₄) (k6.ensures.stored a.asked p u₅)

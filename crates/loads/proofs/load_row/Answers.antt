@@ -1,23 +1,49 @@
 -- `loads::load_row` meets its contract. The invariant: what is left of the row's calls, on the lists as they are, is all of them on the lists as they were (`Going`). Assumes nothing.
-use Rattle.std.proofs.Common.{ap, ◌∙◌, sym, ℕ, ◌+◌}
-use Rattle.store.specs.Store.{pack}
+use Rattle.std.proofs.Common.{ap, refl, ℕ, ◌+◌, arith, rules}
+use Rattle.levels.specs.Answer.{number_of}
+use Rattle.levels.proofs.Refusals.{number_pos}
+use Rattle.sources.proofs.Rounds.{IsSameParts, parts, same_parts_after}
 use Rattle.loads.proofs.Frame.{going_first, row_on, row_stop, row_end}
+use Rattle.loads.proofs.load_row.Goals.{After-load_tmvs}
 use Rattle.loads.proofs.load_row.Goals as goal
 
-pub loop-i-init : goal.loop-i-init
-loop-i-init c = going_first _ _
+-- the lists that are lent stay the same
+same : (c : After-load_tmvs) → IsSameParts (parts c.load_tmvs.new.field c.load_tmvs.new.trajectories c.load_tmvs.new.maps) (parts c.loop-end.field c.loop-end.trajectories c.loop-end.maps)
+same c = let e = c.load_tmvs.ensures in record { field = e.same_field; trajs = e.same_trajectories; maps = e.same_maps }
 
-pub returns-then-number-ne0 : goal.returns-then-number-ne0
-returns-then-number-ne0 c =
-    let a = c.args in let l = c.loop-i in let k = c.load_tmvs-said in
-    row_stop a.setup a.traj a.holes a.planes.now a.row a.ends.now l.i l.start _ _ _ (pack l.field_y l.field_x l.field_ref l.traj_y l.traj_x l.map_y l.map_x) _ _ c.loop-i-test.true (ap (λ (n : ℕ). a.row + n) c.side_of.ensures) k.ensures.0 k.ensures.1 (λ z. c.if-number-ne0.true (c.number.ensures ∙ z)) l.invariant
+pub loop-end-init : goal.loop-end-init
+loop-end-init c = going_first _ _
 
-pub loop-i-preserved : goal.loop-i-preserved
-loop-i-preserved c =
-    let a = c.args in let l = c.loop-i in let k = c.load_tmvs-said in
-    row_on a.setup a.traj a.holes a.planes.now a.row a.ends.now l.i l.start _ _ _ (pack l.field_y l.field_x l.field_ref l.traj_y l.traj_x l.map_y l.map_x) _ _ c.loop-i-test.true (ap (λ (n : ℕ). a.row + n) c.side_of.ensures) k.ensures.0 k.ensures.1 (sym c.number.ensures ∙ c.if-number-ne0.false) (record { field_y = k.auto.field_y; field_x = k.auto.field_x; field_ref = k.auto.field_ref; traj_y = k.auto.traj_y; traj_x = k.auto.traj_x; map_y = k.auto.map_y; map_x = k.auto.map_x }) l.invariant
+pub returns-in_err-load_tmvs-clause-same_field : goal.returns-in_err-load_tmvs-clause-same_field
+returns-in_err-load_tmvs-clause-same_field c = (same_parts_after (same (goal.at.returns-in_err-load_tmvs-clause-same_field c).After-load_tmvs) c.loop-end.invariant.like).field
 
-pub returns : goal.returns
-returns c =
-    let a = c.args in let l = c.loop-i in
-    row_end a.setup a.traj a.holes a.planes.now a.row a.ends.now l.i l.start _ _ _ c.loop-i-test.false l.invariant
+pub returns-in_err-load_tmvs-clause-same_trajectories : goal.returns-in_err-load_tmvs-clause-same_trajectories
+returns-in_err-load_tmvs-clause-same_trajectories c = (same_parts_after (same (goal.at.returns-in_err-load_tmvs-clause-same_trajectories c).After-load_tmvs) c.loop-end.invariant.like).trajs
+
+pub returns-in_err-load_tmvs-clause-same_maps : goal.returns-in_err-load_tmvs-clause-same_maps
+returns-in_err-load_tmvs-clause-same_maps c = (same_parts_after (same (goal.at.returns-in_err-load_tmvs-clause-same_maps c).After-load_tmvs) c.loop-end.invariant.like).maps
+
+pub returns-in_err-load_tmvs-clause-loaded : goal.returns-in_err-load_tmvs-clause-loaded
+returns-in_err-load_tmvs-clause-loaded c =
+    let a = c.args in let l = c.loop-end in let k = c.load_tmvs in let r = c.in_err-load_tmvs in
+    let e = row_stop a.setup.now a.traj a.holes a.planes.now a.row a.ends.now l.end-index l.start _ (number_of r.field-0.0) _ (parts l.field l.trajectories l.maps) (parts k.new.field k.new.trajectories k.new.maps) _ c.loop-end-test.true (ap (λ (n : ℕ). a.row + n) c.side_of.ensures.value) (rw r.was at k.ensures.answer) k.ensures.stored (λ z. omega (arith, number_pos r.field-0.0, z)) l.invariant in
+    search rules
+
+pub loop-end-preserved : goal.loop-end-preserved
+loop-end-preserved c =
+    let a = c.args in let l = c.loop-end in let k = c.load_tmvs in
+    row_on a.setup.now a.traj a.holes a.planes.now a.row a.ends.now l.end-index l.start _ 0 _ (parts l.field l.trajectories l.maps) (parts k.new.field k.new.trajectories k.new.maps) _ c.loop-end-test.true (ap (λ (n : ℕ). a.row + n) c.side_of.ensures.value) (rw c.in_ok-load_tmvs.was at k.ensures.answer) k.ensures.stored refl (same (goal.at.loop-end-preserved c).After-load_tmvs) l.invariant
+
+pub returns-clause-same_field : goal.returns-clause-same_field
+returns-clause-same_field c = c.loop-end.invariant.like.field
+
+pub returns-clause-same_trajectories : goal.returns-clause-same_trajectories
+returns-clause-same_trajectories c = c.loop-end.invariant.like.trajs
+
+pub returns-clause-same_maps : goal.returns-clause-same_maps
+returns-clause-same_maps c = c.loop-end.invariant.like.maps
+
+pub returns-clause-loaded : goal.returns-clause-loaded
+returns-clause-loaded c =
+    let a = c.args in let l = c.loop-end in
+    row_end a.setup.now a.traj a.holes a.planes.now a.row a.ends.now l.end-index l.start _ _ _ c.loop-end-test.false l.invariant

@@ -1,47 +1,51 @@
 -- `tmvs::load_tmvs` meets its contract. Assumes nothing.
-use Rattle.std.proofs.Common.{◌≡◌, refl, sym, ◌∙◌}
-use Rattle.store.specs.Store.{Store, pack}
+use Rattle.std.proofs.Common.{sym, arith, rules}
+use Rattle.levels.proofs.Refusals.{number_pos}
+use Rattle.store.specs.Store.{Store}
+use Rattle.field.specs.Lent.{store_of}
+use Rattle.load.specs.Asked.{call_of}
 use Rattle.load.specs.Load.{Call}
-use Rattle.load.specs.Calls.{tile_fits, answer}
-use Rattle.load.proofs.Accepted.{passed}
-use Rattle.checks.specs.Answer.{call_of, number_of}
 use Rattle.tmvs.proofs.Calls.{ready, loaded, turned_back}
-use Rattle.tmvs.proofs.load_tmvs.Goals.{After-answer_of-said, Else-number-ne0, Start, Then-number-ne0}
+use Rattle.tmvs.proofs.load_tmvs.Goals.{Start}
 use Rattle.tmvs.proofs.load_tmvs.Goals as goal
 
 -- the call, and the store as it is lent
 abbrev asked : Start → Call
-asked s = let a = s.args in call_of a.setup a.whole_frame a.traj a.holes a.col_start a.col_end a.row_start a.row_end a.planes.now
+asked s = let a = s.args in call_of a.setup.now a.asked a.planes.now
 
 abbrev was : Start → Store
-was s = let a = s.args in pack a.field_y.now a.field_x.now a.field_ref.now a.traj_y.now a.traj_x.now a.map_y.now a.map_x.now
+was s = let a = s.args in store_of a.field.now a.trajectories.now a.maps.now
 
-said_is : (c : After-answer_of-said) → number_of c.answer_of-said.result ≡ answer (asked c.before.before.before) (was c.before.before.before)
-said_is c = c.answer_of-said.ensures c.args.traj c.args.holes (was c.before.before.before) (record { field_y = refl; field_x = refl; field_ref = refl; traj_y = refl; traj_x = refl; map_y = refl; map_x = refl })
+pub returns-in_err-t-clause-answer : goal.returns-in_err-t-clause-answer
+returns-in_err-t-clause-answer c = let e = c.in_err-t.ensures in search rules
 
-said_is_at_1 : (c : Then-number-ne0) → number_of c.answer_of-said.result ≡ answer (asked c.before.before.before.before.before) (was c.before.before.before.before.before)
-said_is_at_1 c = c.answer_of-said.ensures c.args.traj c.args.holes (was c.before.before.before.before.before) (record { field_y = refl; field_x = refl; field_ref = refl; traj_y = refl; traj_x = refl; map_y = refl; map_x = refl })
+pub returns-in_err-t-clause-stored : goal.returns-in_err-t-clause-stored
+returns-in_err-t-clause-stored c =
+    let s = (goal.at.returns-in_err-t-clause-stored c).Start in turned_back (asked s) (was s) (λ h. omega (arith, number_pos c.in_err-t.field-0.0, c.in_err-t.ensures, h))
 
-refused : (c : Then-number-ne0) → answer (asked c.before.before.before.before.before) (was c.before.before.before.before.before) ≡ 0 → ⊥
-refused c e = c.if-number-ne0.true (c.number.ensures ∙ said_is_at_1 c ∙ e)
+pub load_tile-requires-clause-row_mode : goal.load_tile-requires-clause-row_mode
+load_tile-requires-clause-row_mode c = let s = (goal.at.load_tile-requires-clause-row_mode c).Start in let e = c.in_ok-t.ensures in (ready (asked s) (was s) e.0 _ e.1).row_mode
 
-said_is_at_2 : (c : Else-number-ne0) → number_of c.answer_of-said.result ≡ answer (asked c.before.before.before.before.before) (was c.before.before.before.before.before)
-said_is_at_2 c = c.answer_of-said.ensures c.args.traj c.args.holes (was c.before.before.before.before.before) (record { field_y = refl; field_x = refl; field_ref = refl; traj_y = refl; traj_x = refl; map_y = refl; map_x = refl })
+pub load_tile-requires-clause-planes : goal.load_tile-requires-clause-planes
+load_tile-requires-clause-planes c = let s = (goal.at.load_tile-requires-clause-planes c).Start in let e = c.in_ok-t.ensures in (ready (asked s) (was s) e.0 _ e.1).planes
 
-accepted : (c : Else-number-ne0) → answer (asked c.before.before.before.before.before) (was c.before.before.before.before.before) ≡ 0
-accepted c = sym (said_is_at_2 c) ∙ sym c.number.ensures ∙ c.if-number-ne0.false
+pub load_tile-requires-clause-fine : goal.load_tile-requires-clause-fine
+load_tile-requires-clause-fine c = let s = (goal.at.load_tile-requires-clause-fine c).Start in let e = c.in_ok-t.ensures in (ready (asked s) (was s) e.0 _ e.1).fine
 
-pub returns-then-number-ne0 : goal.returns-then-number-ne0
-returns-then-number-ne0 c = (said_is (goal.at.returns-then-number-ne0 c).After-answer_of-said, turned_back (asked (goal.at.returns-then-number-ne0 c).Start) (was (goal.at.returns-then-number-ne0 c).Start) (refused c))
+pub load_tile-requires-clause-slots : goal.load_tile-requires-clause-slots
+load_tile-requires-clause-slots c = let s = (goal.at.load_tile-requires-clause-slots c).Start in let e = c.in_ok-t.ensures in (ready (asked s) (was s) e.0 _ e.1).slots
 
-pub tile_of-t-requires : goal.tile_of-t-requires
-unfolding tile_fits
-tile_of-t-requires c = let p = passed (asked (goal.at.tile_of-t-requires c).Start) (was (goal.at.tile_of-t-requires c).Start) (accepted c) in record { f_value = p.setup; row_end_value = p.tile }
+pub load_tile-requires-clause-field : goal.load_tile-requires-clause-field
+load_tile-requires-clause-field c = let s = (goal.at.load_tile-requires-clause-field c).Start in let e = c.in_ok-t.ensures in (ready (asked s) (was s) e.0 _ e.1).field
 
-pub load_tile-requires : goal.load_tile-requires
-load_tile-requires c = let t = c.tile_of-t in let parts = ready (asked (goal.at.load_tile-requires c).Start) (was (goal.at.load_tile-requires c).Start) (accepted (goal.at.load_tile-requires c).Else-number-ne0) t.result (t.ensures c.args.traj c.args.holes c.args.planes.now) in record { sound = parts.0; field_held = parts.1 }
+pub load_tile-requires-clause-trajectories : goal.load_tile-requires-clause-trajectories
+load_tile-requires-clause-trajectories c = let s = (goal.at.load_tile-requires-clause-trajectories c).Start in let e = c.in_ok-t.ensures in (ready (asked s) (was s) e.0 _ e.1).trajectories
 
-pub returns : goal.returns
-returns c =
-    let t = c.tile_of-t in
-    (said_is (goal.at.returns c).After-answer_of-said, loaded (asked (goal.at.returns c).Start) (was (goal.at.returns c).Start) (accepted (goal.at.returns c).Else-number-ne0) t.result (t.ensures c.args.traj c.args.holes c.args.planes.now) _ (c.load_tile.ensures (asked (goal.at.returns c).Start) (record { setup = refl; whole_frame = refl; traj = refl; holes = refl; planes = refl })))
+pub load_tile-requires-clause-maps : goal.load_tile-requires-clause-maps
+load_tile-requires-clause-maps c = let s = (goal.at.load_tile-requires-clause-maps c).Start in let e = c.in_ok-t.ensures in (ready (asked s) (was s) e.0 _ e.1).maps
+
+pub returns-clause-answer : goal.returns-clause-answer
+returns-clause-answer c = sym c.in_ok-t.ensures.0
+
+pub returns-clause-stored : goal.returns-clause-stored
+returns-clause-stored c = let s = (goal.at.returns-clause-stored c).Start in let e = c.in_ok-t.ensures in loaded (asked s) (was s) e.0 _ e.1 _ c.load_tile.ensures.stored
