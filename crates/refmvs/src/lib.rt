@@ -11,12 +11,15 @@ ghost use Rattle.std.specs.Prelude.{◌≡◌};
 ghost use Rattle.store.specs.Store.{pack};
 ghost use Rattle.store.specs.Calls.{called};
 ghost use Rattle.load.specs.Calls.{answer, load};
-ghost use Rattle.checks.specs.Answer.{call_of};
+ghost use Rattle.load.specs.Asked.{asked_of, call_of};
 ghost use Rattle.lent.specs.Lent.{Gives, GivesBytes, GivesDiff};
 ghost use Rattle.c_setup.specs.Setup.{on, header_of, given_by, frame_of};
 
 use c_setup::{CFrame, CHeader, CSetup};
+use field::Field;
 use levels::OrderHint;
+use load::Asked;
+use store::Pairs;
 
 pub fn refmvs_mv_projection(
     y: i32,
@@ -65,11 +68,7 @@ pub fn refmvs_get_poc_diff(
 pub fn refmvs_init_frame(header: CHeader) -> CSetup
     ensures { given_by result ≡ setup_of (header_of header) }
 {
-    let s = frame::init_frame(c_setup::header_of(header));
-    let said = s.said;
-    let frame = s.frame;
-    let refusal = frame::number(said) as u32;
-    CSetup { refusal, frame }
+    CSetup::from(frame::init_frame(&c_setup::header_of(header)))
 }
 
 // A load of a tile. The lent slices may be longer than 01 states; a refused call leaves them as they were.
@@ -91,30 +90,41 @@ pub fn refmvs_load_tmvs(
     row_start: usize,
     row_end: usize,
 ) -> u32
-    ensures { let c = call_of (frame_of setup) (on whole_frame) (on traj) (on holes) col_start col_end row_start row_end planes.now in
+    ensures { let c = call_of (frame_of setup) (asked_of (on whole_frame) (on traj) (on holes) col_start col_end row_start row_end) planes.now in
         let s = pack field_y.old field_x.old field_ref.old traj_y.old traj_x.old map_y.old map_x.old in
         (result ≡ answer c s)
         × (pack field_y.new field_x.new field_ref.new traj_y.new traj_x.new map_y.new map_x.new
         ≡ called answer load c s) }
 {
-    let f = c_setup::frame_of(setup);
-    let said = tmvs::load_tmvs(
-        field_y,
-        field_x,
-        field_ref,
-        traj_y,
-        traj_x,
-        map_y,
-        map_x,
-        planes,
-        f,
-        whole_frame != 0,
-        traj != 0,
-        holes != 0,
+    let frame = c_setup::frame_of(setup);
+    let asked = Asked {
+        whole_frame: whole_frame != 0,
+        traj: traj != 0,
+        holes: holes != 0,
         col_start,
         col_end,
         row_start,
         row_end,
-    );
-    checks::number(said) as u32
+    };
+    let mut field = Field {
+        y: field_y,
+        x: field_x,
+        reference: field_ref,
+    };
+    let mut trajectories = Pairs {
+        y: traj_y,
+        x: traj_x,
+    };
+    let mut maps = Pairs { y: map_y, x: map_x };
+    match tmvs::load_tmvs(
+        &mut field,
+        &mut trajectories,
+        &mut maps,
+        planes,
+        &frame,
+        asked,
+    ) {
+        Ok(()) => 0,
+        Err(refusal) => refusal.into(),
+    }
 }

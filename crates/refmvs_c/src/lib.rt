@@ -10,7 +10,7 @@ ghost use Rattle.std.specs.Prelude.{◌≡◌};
 ghost use Rattle.store.specs.Store.{pack};
 ghost use Rattle.store.specs.Calls.{called};
 ghost use Rattle.load.specs.Calls.{answer, load};
-ghost use Rattle.checks.specs.Answer.{call_of};
+ghost use Rattle.load.specs.Asked.{asked_of, call_of};
 ghost use Rattle.lent.specs.Lent.{Gives, GivesBytes, GivesDiff};
 ghost use Rattle.c_setup.specs.Setup.{on, header_of, given_by, frame_of};
 
@@ -93,7 +93,7 @@ pub extern "C" fn refmvs_load_tmvs(
     row_start: usize,
     row_end: usize,
 ) -> u32
-    ensures { let c = call_of (frame_of setup) (on whole_frame) (on traj) (on holes) col_start col_end row_start row_end planes.now in
+    ensures { let c = call_of (frame_of setup) (asked_of (on whole_frame) (on traj) (on holes) col_start col_end row_start row_end) planes.now in
         let s = pack field_y.old field_x.old field_ref.old traj_y.old traj_x.old map_y.old map_x.old in
         (result ≡ answer c s)
         × (pack field_y.new field_x.new field_ref.new traj_y.new traj_x.new map_y.new map_x.new

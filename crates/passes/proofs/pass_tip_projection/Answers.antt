@@ -1,6 +1,0 @@
--- `passes::pass_tip_projection` meets its contract. Assumes nothing.
-use Rattle.intops.proofs.Signed.{back}
-use Rattle.passes.proofs.pass_tip_projection.Goals as goal
-
-pub returns : goal.returns
-returns c = let f = c.ranges.delta in simp back at c.tip_projection.ensures
