@@ -1,3 +1,2 @@
-pub mod Ascii
-pub mod Decimal
-pub mod Put
+pub mod Joined
+pub mod SignedByte

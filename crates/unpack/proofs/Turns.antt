@@ -1,80 +1,58 @@
 -- Laws of the program's turns. Assumes nothing.
-use Rattle.std.proofs.Common.{◌≡◌, true, false, not, ◌||◌, ℕ, ◌+◌, ◌*◌, ◌/◌, ◌%◌, ◌≤◌, ◌<◌, List, ◌++◌, length, Some, None, IfSome, sym, ap, ◌∙◌, subst, arith, append-nil, length-append, Option, eqb, eqb-true, eq-eqb, ne_eqb}
+use Rattle.std.proofs.Common.{◌≡◌, ◌≢◌, Bool, true, false, not, ◌||◌, nat_eq, eqb-true, ℕ, ◌+◌, ◌*◌, ◌/◌, ◌%◌, List, [], ◌++◌, length, Option, Some, None, IfSome, OnOk, is_err, Result, Ok, Err, sym, ap, ◌∙◌, subst, refl, arith, append-nil, length-append, true≢false}
+use borrow.Author.Tests.{eqb-false}
 use Rattle.std.specs.Io.KnownBytes.{Consumes, Appends, IsAtEnd}
-use Rattle.std.proofs.KnownBytes.{Consumes-trans, Appends-trans}
-use borrow.Author.Tests.{eqb-false, not-false}
-use Rattle.intops.proofs.Tests.{or_neither}
-use Rattle.unpack.specs.declared.Turn.{Turn}
-use Rattle.unpack.specs.Text.{is_last, text}
+use Rattle.std.proofs.KnownBytes.{Consumes-nil, Consumes-trans, Appends-nil, Appends-trans}
+use Rattle.unpack.specs.Text.{text}
 use Rattle.unpack.proofs.Text.{in_parts}
 
--- a turn that is not the last has turns behind it
-pub more_turns : (t : Turn) (size : ℕ) → is_last t size ≡ false → 1 ≤ t.left
-more_turns t size e =
-    let early = (or_neither (eqb t.left 0 || t.written.failed) (not (eqb t.read size)) e).0 in
-    let n = eqb-false t.left 0 (or_neither (eqb t.left 0) t.written.failed early).0 in
-    omega arith
-
--- its write has not failed, and its read was full
-pub not_failed : (t : Turn) (size : ℕ) → is_last t size ≡ false → t.written.failed ≡ false
-not_failed t size e =
-    let early = (or_neither (eqb t.left 0 || t.written.failed) (not (eqb t.read size)) e).0 in
-    (or_neither (eqb t.left 0) t.written.failed early).1
-
-pub was_full : (t : Turn) (size : ℕ) → is_last t size ≡ false → t.read ≡ size
-was_full t size e = eqb-true t.read size (not-false _ (or_neither (eqb t.left 0 || t.written.failed) (not (eqb t.read size)) e).1)
-
--- what the turns up to t have read and written, from a reader and a writer of known bytes
-pub record SoFar (r₀ r w₀ w : Option (List ℕ)) (t : Turn) (size : ℕ) : Type 0 where
+-- what the turns so far have read and written, from a reader and a writer of known bytes: whole pairs
+pub record SoFar (r₀ r w₀ w : Option (List ℕ)) : Type 0 where
   pub bytes : List ℕ
+  pub pairs : ℕ
+  pub even : length bytes ≡ 2 * pairs
   pub read : Consumes r₀ r bytes
-  pub even : t.read ≡ size → (pairs : ℕ) × (length bytes ≡ 2 * pairs)
-  pub fits : t.read ≤ size
-  pub written : t.written.failed ≡ false → Appends w₀ w (text bytes)
-  pub ended : t.read_failed ≡ false → t.read < size → IsAtEnd r
+  pub written : Appends w₀ w (text bytes)
 
--- a turn's part
-pub record Part (r₀ r w₀ w : Option (List ℕ)) (t : Turn) (size : ℕ) (bytes : List ℕ) : Type 0 where
-  pub read : Consumes r₀ r bytes
-  pub long : length bytes ≡ t.read
-  pub fits : t.read ≤ size
-  pub written : t.written.failed ≡ false → Appends w₀ w (text bytes)
-  pub ended : t.read_failed ≡ false → t.read < size → IsAtEnd r
+pub before_first : (r w : Option (List ℕ)) → SoFar r r w w
+unfolding text
+before_first r w = record { bytes = []; pairs = 0; even = refl; read = Consumes-nil r; written = Appends-nil w }
 
-pub first_turn : (r₀ r w₀ w : Option (List ℕ)) (t : Turn) (size : ℕ) (bytes : List ℕ) → size % 2 ≡ 0 → Part r₀ r w₀ w t size bytes → SoFar r₀ r w₀ w t size
-first_turn r₀ r w₀ w t size bytes e p = record {
-  bytes = bytes;
-  read = p.read;
-  even = λ f. (size / 2, omega (arith, p.long, f, e));
-  fits = p.fits;
-  written = p.written;
-  ended = p.ended;
+-- one turn more, of a full buffer
+pub next_turn : (r₀ r r' w₀ w w' : Option (List ℕ)) (bytes : List ℕ) → length bytes % 2 ≡ 0 → SoFar r₀ r w₀ w → Consumes r r' bytes → Appends w w' (text bytes) → SoFar r₀ r' w₀ w'
+next_turn r₀ r r' w₀ w w' bytes e f p q = record {
+  bytes = f.bytes ++ bytes;
+  pairs = f.pairs + length bytes / 2;
+  even = omega (arith, f.even, e, length-append f.bytes bytes);
+  read = Consumes-trans _ _ _ _ _ f.read p;
+  written = subst (Appends w₀ w') (sym (in_parts f.pairs f.bytes bytes f.even)) (Appends-trans _ _ _ _ _ f.written q);
 }
-
-pub next_turn : (r₀ r r' w₀ w w' : Option (List ℕ)) (s t : Turn) (size : ℕ) (bytes : List ℕ) → size % 2 ≡ 0 → is_last s size ≡ false → SoFar r₀ r w₀ w s size → Part r r' w w' t size bytes → SoFar r₀ r' w₀ w' t size
-next_turn r₀ r r' w₀ w w' s t size bytes e l f p =
-    let pairs = f.even (was_full s size l) in
-    record {
-      bytes = f.bytes ++ bytes;
-      read = Consumes-trans _ _ _ _ _ f.read p.read;
-      even = λ q. (pairs.0 + size / 2, omega (arith, pairs.1, p.long, q, e, length-append f.bytes bytes));
-      fits = p.fits;
-      written = λ q. subst (Appends w₀ w') (sym (in_parts pairs.0 f.bytes bytes pairs.1)) (Appends-trans _ _ _ _ _ (f.written (not_failed s size l)) (p.written q));
-      ended = p.ended;
-    }
 
 at_end : (r₀ r w₀ w : Option (List ℕ)) (bytes : List ℕ) → Consumes r₀ r bytes → IsAtEnd r → Appends w₀ w (text bytes) → IfSome r₀ (λ xs. Appends w₀ w (text xs))
 at_end None r w₀ w bytes c e a = tt
 at_end (Some xs) None w₀ w bytes c e a = absurd c
 at_end (Some xs) (Some ys) w₀ w bytes c e a = subst (λ (l : List ℕ). Appends w₀ w (text l)) (sym (c ∙ ap (λ (l : List ℕ). bytes ++ l) e ∙ append-nil bytes)) a
 
-last_not_full : (t : Turn) (size : ℕ) → is_last t size ≡ true → 0 < t.left → t.written.failed ≡ false → t.read ≡ size → ⊥
-last_not_full t size l h f e =
-    let n : is_last t size ≡ false = rw (ne_eqb t.left 0 (λ z. omega arith), f, eq-eqb t.read size e) in
-    let z : true ≡ false = sym l ∙ n in cc
+-- the last turn: the text of all that the reader had is written
+pub last_turn : (r₀ r r' w₀ w w' : Option (List ℕ)) (bytes : List ℕ) → SoFar r₀ r w₀ w → Consumes r r' bytes → IsAtEnd r' → Appends w w' (text bytes) → IfSome r₀ (λ xs. Appends w₀ w' (text xs))
+last_turn r₀ r r' w₀ w w' bytes f p e q =
+    at_end r₀ r' w₀ w' (f.bytes ++ bytes) (Consumes-trans _ _ _ _ _ f.read p) e (subst (Appends w₀ w') (sym (in_parts f.pairs f.bytes bytes f.even)) (Appends-trans _ _ _ _ _ f.written q))
 
--- at the end the text of all that the reader had is written
-pub whole : (r₀ r w₀ w : Option (List ℕ)) (t : Turn) (size : ℕ) → SoFar r₀ r w₀ w t size → is_last t size ≡ true → 0 < t.left → t.written.failed ≡ false → t.read_failed ≡ false → IfSome r₀ (λ xs. Appends w₀ w (text xs))
-whole r₀ r w₀ w t size s l h f g =
-    let n : t.read < size = omega (arith, s.fits, last_not_full t size l h f) in
-    at_end r₀ r w₀ w s.bytes s.read (s.ended g n) (s.written f)
+-- what a test of two lengths says
+equal_of : (n m : ℕ) (b : Bool) → nat_eq n m ≡ b → not b ≡ false → n ≡ m
+equal_of n m true e f = eqb-true n m e
+equal_of n m false e f = absurd (true≢false f)
+
+unequal_of : (n m : ℕ) (b : Bool) → nat_eq n m ≡ b → not b ≡ true → n ≢ m
+unequal_of n m true e f = absurd (true≢false (sym f))
+unequal_of n m false e f = eqb-false n m e
+
+-- a run that goes on has written a full read
+pub goes_on : {T E A : Type 0} (r : Result T E) (read size : ℕ) {last : Bool} → last ≡ (is_err r || not (nat_eq read size)) → last ≡ false → OnOk r A → A × (read ≡ size)
+goes_on (Ok t) read size e f a = (a, equal_of read size _ refl (sym e ∙ f))
+goes_on (Err x) read size e f a = absurd (true≢false (sym e ∙ f))
+
+-- a last turn whose write is good was not a full read
+pub on_last : {T E A B : Type 0} (r : Result T E) (read size : ℕ) {last : Bool} → last ≡ (is_err r || not (nat_eq read size)) → last ≡ true → OnOk r A → (read ≢ size → A → B) → OnOk r B
+on_last (Ok t) read size e f a h = h (unequal_of read size _ refl (sym e ∙ f)) a
+on_last (Err x) read size e f a h = tt

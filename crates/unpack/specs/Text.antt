@@ -1,29 +1,29 @@
 -- What the program writes (01, "Table to be proved"), as a list of bytes. Assumes nothing.
-use Rattle.std.specs.Prelude.{◌≡◌, Bool, cond, not, ◌||◌, List, [], ◌∷◌, ◌++◌, ℕ, ◌*◌, eqb, ℤ, length}
+use Rattle.std.specs.Prelude.{◌≡◌, Bool, cond, not, ◌||◌, is_err, nat_eq, List, [], ◌∷◌, ◌++◌, ℕ, ◌*◌, eqb, ℤ, length, codes, decimal}
+use Rattle.std.specs.Fmt.{signed_decimal}
 use Rattle.intops.specs.Choice.{eq_z}
 use Rattle.levels.specs.declared.Mv.{Mv}
 use Rattle.levels.specs.Vector.{empty}
 use Rattle.levels.specs.Answer.{Said}
 use Rattle.mv.specs.Packing.{unpacked}
-use Rattle.text.specs.Ascii.{ascii}
-use Rattle.text.specs.Decimal.{natural, decimal, signed_byte}
+use Rattle.text.specs.SignedByte.{signed_byte}
 use Rattle.unpack.specs.declared.Turn.{Turn}
 
 -- the line `empty`
 abbrev pub empty_line : List ℕ
-empty_line = ascii "empty\n"
+empty_line = codes "empty\n"
 
 -- the line `short`
 abbrev pub short_line : List ℕ
-short_line = ascii "short\n"
+short_line = codes "short\n"
 
 -- the line `refused n`
 abbrev pub refused_line : ℕ → List ℕ
-refused_line n = ascii "refused " ++ natural n ++ ascii "\n"
+refused_line n = codes "refused " ++ decimal n ++ codes "\n"
 
 -- the line of two numbers: y, a space, x, a line feed
 unfoldable pub numbers_line : ℤ → ℤ → List ℕ
-numbers_line y x = decimal y ++ ascii " " ++ decimal x ++ ascii "\n"
+numbers_line y x = signed_decimal y ++ codes " " ++ signed_decimal x ++ codes "\n"
 
 -- the line of a vector: `empty` by its y
 abbrev pub vector_line : Mv → List ℕ
@@ -43,9 +43,9 @@ text [] = []
 text (b ∷ []) = short_line
 text (y ∷ x ∷ rest) = pair_line y x ++ text rest
 
--- is the turn the last, where size is the buffer's length? A read that is not full is the input's end, a write that fails ends the run, and turns are counted down
+-- is the turn the run's last, where size is the buffer's length? A write that fails ends the run, and a read that is not full is the input's end or a failed read
 abbrev pub is_last : Turn → ℕ → Bool
-is_last t size = eqb t.left 0 || t.written.failed || not (eqb t.read size)
+is_last t size = is_err t.written || not (nat_eq t.read.bytes size)
 
 -- ---- what is proved of it besides (proofs/Text.antt)
 
@@ -57,4 +57,4 @@ InParts = (pairs : ℕ) (a b : List ℕ) → length a ≡ 2 * pairs → text (a 
 abbrev pub Example : Type 0
 Example =
     text (0x05 ∷ 0xE0 ∷ 0x80 ∷ 0x80 ∷ 0x80 ∷ 0x00 ∷ [])
-    ≡ ascii "5 -32\nempty\nrefused 2\n"
+    ≡ codes "5 -32\nempty\nrefused 2\n"
