@@ -1,5 +1,6 @@
 -- The numbers of a line. Assumes nothing.
-use Rattle.std.specs.Prelude.{Bool, not, List, ℕ, ◌≤◌, ◌<◌, ℤ, pos, negsuc, nat_abs, get_or, ◌≤ℤ◌}
+use Rattle.std.specs.Prelude.{Result, Ok, Err, ◌⊎◌, Bool, not, List, ℕ, ◌≤◌, ◌<◌, ℤ, pos, negsuc, nat_abs, get_or, ◌≤ℤ◌}
+use Rattle.std.specs.declared.num.TryFromIntError.{TryFromIntError}
 use Rattle.intops.specs.Choice.{eq_z}
 use Rattle.levels.specs.declared.OrderHint.{OrderHint}
 
@@ -46,6 +47,10 @@ Signed32s a b n = AllInside (negsuc 2147483647) (pos 2147483647) a b n
 -- they are sizes
 abbrev pub Sizes : ℕ → ℕ → List ℤ → Type 0
 Sizes a b n = AllInside (pos 0) (pos 9223372036854775807) a b n
+
+-- x is the number z as a value of its type, which `try_from` makes by `gives`; or z does not fit the type
+abbrev pub IsNumber : {T : Type 0} → (ℤ → Result T TryFromIntError → Type 0) → ℤ → T → Type 0
+IsNumber gives z x = ((e : TryFromIntError) × gives z (Err e)) ⊎ gives z (Ok x)
 
 -- a switch is on where its number is not 0
 unfoldable pub is_on : ℤ → Bool

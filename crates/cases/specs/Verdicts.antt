@@ -1,5 +1,5 @@
 -- What a test, and a verdict, says. Assumes nothing.
-use Rattle.std.specs.Prelude.{Bool, true, false}
+use Rattle.std.specs.Prelude.{Bool, true, false, Option, Some, None}
 use Rattle.cases.specs.declared.Verdict.{Verdict}
 use Rattle.cases.specs.declared.Verdict.TheVariants.{Agrees, Differs, NotACase}
 
@@ -13,3 +13,9 @@ abbrev pub WhenAgrees : Verdict → Type 0 → Type 0
 WhenAgrees Agrees p = p
 WhenAgrees Differs p = Unit {0}
 WhenAgrees NotACase p = Unit {0}
+
+-- the verdict of a judge that says whether its case agrees, or that it is none
+abbrev pub verdict_of : Option Bool → Verdict
+verdict_of (Some true) = Agrees
+verdict_of (Some false) = Differs
+verdict_of None = NotACase

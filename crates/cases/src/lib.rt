@@ -1,125 +1,128 @@
 // What the judges of kept cases share: the verdict, and numbers of a line that are to fit a field.
 #![tactic(auto)]
 
-ghost use Rattle.std.specs.Prelude.{◌≡◌, true, ◌≤◌, pos, negsuc, nat_abs, length};
-ghost use Rattle.cases.specs.Numbers.{Inside, Is32, AllInside, is_on, IsSize};
-ghost use Rattle.cases.specs.Verdicts.{WhenTrue, WhenAgrees};
+ghost use Rattle.std.specs.Prelude.{◌≡◌, ◌≤◌, ◌+◌, ℕ, nat_abs, length, IfSome, Ok, Some, slice_get, ◌<◌};
+ghost use Rattle.cases.specs.Numbers.{at, Inside, Is32, AllInside, is_on, IsSize, IsNumber};
+ghost use Rattle.cases.specs.Verdicts.{WhenTrue};
 
-#[derive(Clone, Copy)]
+use std::array;
+use std::num::TryFromIntError;
+
+/// What a judge says of a case.
+#[derive(Clone, Copy, Debug, PartialEq, Eq)]
 pub enum Verdict {
     Agrees,
     Differs,
-    // A count of numbers that the kind does not have, or a number that does not fit its field.
+    /// A count of numbers that the kind does not have, or a number that does not fit its field.
     NotACase,
 }
 
-pub fn verdict_of(agrees: bool) -> Verdict
-    ensures { WhenAgrees result (agrees ≡ true) }
-{
-    if agrees {
-        Verdict::Agrees
-    } else {
-        Verdict::Differs
+/// Whether the case agrees; `None` where its numbers cannot be read as a case.
+impl From<Option<bool>> for Verdict {
+    ghost use Rattle.std.specs.Prelude.{◌≡◌};
+    ghost use Rattle.cases.specs.Verdicts.{verdict_of};
+
+    ghost from_gives = { λ o v. v ≡ verdict_of o };
+
+    fn from(agrees: Option<bool>) -> Verdict {
+        match agrees {
+            Some(true) => Verdict::Agrees,
+            Some(false) => Verdict::Differs,
+            None => Verdict::NotACase,
+        }
     }
 }
 
 pub fn within(v: i64, low: i64, high: i64) -> bool
     ensures { WhenTrue result (Inside low high v) }
 {
-    if v < low {
-        return false;
-    }
-    if high < v {
-        return false;
-    }
-    true
+    (low..=high).contains(&v)
 }
 
 pub fn all_within(n: &[i64], from: usize, to: usize, low: i64, high: i64) -> bool
     requires { to ≤ length n.now }
     ensures { WhenTrue result (AllInside low high from to n.now) }
 {
-    let mut k = from;
-    while k < to {
+    // Not `n[from..to].iter()`, which has to be in order: where `to` is below `from`, there are none.
+    for k in from..to {
         if !within(n[k], low, high) {
             return false;
         }
-        k += 1;
     }
     true
 }
 
-// The casts below clip, so that they are total; each number is tested before.
-pub fn to_i32(v: i64) -> i32
-    ensures { Is32 v → result ≡ v }
+/// A number of a line as a field's type; the type's default where it does not fit.
+pub fn number<T: Copy + Default + TryFrom<i64, Error = TryFromIntError>>(v: i64) -> T
+    ensures { IsNumber T.try_from_gives v result }
 {
-    intops::iclip64to32(v, -2147483648, 2147483647)
+    T::try_from(v).unwrap_or_default()
 }
 
-pub fn to_i8(v: i64) -> i8
-    ensures { Inside (negsuc 127) (pos 127) v → result ≡ v }
+/// Seven of them, from the number k on.
+pub fn seven<T: Copy + Default + TryFrom<i64, Error = TryFromIntError>>(
+    n: &[i64],
+    k: usize,
+) -> [T; 7]
+    requires { k + 7 ≤ length n.now }
+    ensures { (i : ℕ) (x : T) → i < 7 → slice_get result i ≡ Some x → IsNumber T.try_from_gives (at n.now (k + i)) x }
 {
-    if v < -128 {
-        -128
-    } else if 127 < v {
-        127
-    } else {
-        v as i8
-    }
+    array::from_fn(|i| number(n[k + i]))
 }
 
-pub fn to_u32(v: i64) -> u32
-    ensures { Inside (pos 0) (pos 4294967295) v → result ≡ nat_abs v }
-{
-    if v < 0 {
-        0
-    } else if 4294967295 < v {
-        4294967295
-    } else {
-        v as u32
-    }
-}
-
-pub fn to_u8(v: i64) -> u8
-    ensures { Inside (pos 0) (pos 255) v → result ≡ nat_abs v }
-{
-    if v < 0 {
-        0
-    } else if 255 < v {
-        255
-    } else {
-        v as u8
-    }
-}
-
+/// A size of a line; 0 where the number is none.
 pub fn to_usize(v: i64) -> usize
     ensures { IsSize v → result ≡ nat_abs v }
 {
-    if v < 0 { 0 } else { v as usize }
+    usize::try_from(v).unwrap_or(0)
 }
 
-// A switch is on where its number is not 0.
+/// A switch is on where its number is not 0.
 pub fn is_on(v: i64) -> bool
     ensures { result ≡ is_on v }
 {
     v != 0
 }
 
-// A line's numbers are i64: one function for each type of a field or an element.
-pub fn of_u8(v: u8) -> i64
-    ensures { result ≡ pos v }
+/// The numbers of a line that has just N, each of 32 bits.
+pub fn numbers<const N: usize>(n: &[i64]) -> Option<[i32; N]>
+    ensures same { IfSome result (λ r. r ≡ n.now) }
+    ensures fit { IfSome result (λ r. (k : ℕ) → Is32 (at r k)) }
 {
-    v as i64
+    if n.len() != N {
+        return None;
+    }
+    let mut out = [0; N];
+    read(n, 0, &mut out)?;
+    Some(out)
 }
 
-pub fn of_i8(v: i8) -> i64
-    ensures { result ≡ v }
+/// Reads the numbers from the place `from` on, as many as `to` has elements.
+pub fn read<T: Copy + TryFrom<i64, Error = TryFromIntError>>(
+    n: &[i64],
+    from: usize,
+    to: &mut [T],
+) -> Option<()>
+    ensures read { IfSome result (λ _. (k : ℕ) (v : T) → slice_get to.new k ≡ Some v → T.try_from_gives (at n.now (from + k)) (Ok v)) }
 {
-    v as i64
+    let numbers = n.get(from..)?;
+    for (i, v) in to.iter_mut().enumerate() {
+        *v = T::try_from(*numbers.get(i)?).ok()?;
+    }
+    Some(())
 }
 
-pub fn of_i32(v: i32) -> i64
-    ensures { result ≡ v }
+/// Are the elements of the list the numbers from the place `from` on?
+pub fn same<T: Copy + Into<i64>>(list: &[T], n: &[i64], from: usize) -> bool
+    ensures { WhenTrue result ((k : ℕ) (v : T) → slice_get list.now k ≡ Some v → T.converts v (at n.now (from + k))) }
 {
-    v as i64
+    let Some(numbers) = n.get(from..) else {
+        return false;
+    };
+    for (i, &v) in list.iter().enumerate() {
+        if numbers.get(i) != Some(&v.into()) {
+            return false;
+        }
+    }
+    true
 }

@@ -1,5 +1,6 @@
 -- Laws of the kind `frame`: the header and the record by their parts. Assumes nothing.
-use Rattle.std.proofs.Common.{◌≡◌, Bool, List, ℕ, ◌+◌, ℤ, pos, nat_abs, set}
+use Rattle.std.proofs.Common.{Some, slice_get, false, sym, ap, ◌∙◌, ◌≡◌, Bool, List, ℕ, ◌+◌, ℤ, pos, nat_abs, set}
+use Rattle.std.proofs.lemmas.Option.{get_or_from_slice_get}
 use Rattle.levels.specs.declared.OrderHint.{OrderHint}
 use Rattle.picks.specs.declared.Saved.{Saved}
 use Rattle.picks.specs.declared.Pocs.{Pocs}
@@ -70,3 +71,13 @@ pub frame_is : (f : Frame) (o : List ℤ) {v0 v1 v2 : ℤ} {p q r s t u : List �
     → u ≡ put_frame f o
 unfolding put_frame
 frame_is f o a b c d e e0 e1 e2 g = cc
+
+-- an element of an array, as a number
+pub of_signed : (a : List ℤ) (i : ℕ) (x z : ℤ) → slice_get a i ≡ Some x → z ≡ x → z ≡ at a i
+of_signed a i x z e q = q ∙ sym (get_or_from_slice_get a i x (pos 0) e)
+
+pub of_bytes : (a : List ℕ) (i x : ℕ) (z : ℤ) → slice_get a i ≡ Some x → z ≡ pos x → z ≡ bytes a i
+of_bytes a i x z e q = q ∙ ap pos (sym (get_or_from_slice_get a i x 0 e))
+
+pub of_bools : (a : List Bool) (i : ℕ) (x : Bool) (z : ℤ) → slice_get a i ≡ Some x → z ≡ bit x → z ≡ bits a i
+of_bools a i x z e q = q ∙ ap bit (sym (get_or_from_slice_get a i x false e))

@@ -2,68 +2,59 @@
 // init_frame makes of it, fields and elements in the order of include/refmvs.h.
 #![tactic(auto)]
 
-ghost use Rattle.std.specs.Prelude.{◌≡◌, ◌+◌, ◌≤◌, pos, length};
+ghost use Rattle.std.specs.Prelude.{◌≡◌, true, ℕ, ℤ, ◌+◌, ◌≤◌, length, Some, slice_get};
 ghost use Rattle.cases.specs.Verdicts.{WhenTrue, WhenAgrees};
-ghost use Rattle.cases.specs.Numbers.{at, Bytes};
-ghost use Rattle.frame_cases.specs.FrameCase.{HeaderFits, hints_at, saved_at, all_saved, switches_at, pocs_of, header_of, bit, bits, bytes, in_i64, put_seven, put_source, put_sources, put_head, put_frame, record_of, Stated, FrameAgrees};
+ghost use Rattle.cases.specs.Numbers.{Bytes};
+ghost use Rattle.frame.specs.Frame.{says_setup};
+ghost use Rattle.frame_cases.specs.FrameCase.{HeaderFits, hints_at, saved_at, all_saved, switches_at, pocs_of, header_of, in_i64, put_seven, put_source, put_sources, put_head, put_frame, record_of, Stated, FrameAgrees};
 
 use cases::Verdict;
 use entry::Source;
 use frame::{Frame, Header, Sources};
-use levels::OrderHint;
+use levels::{OrderHint, Refusal};
 use picks::{Pocs, Saved};
+use std::array;
 
-// Does each number of the header fit its field? A switch fits as it is.
+/// Does each number of the header fit its field? A switch fits as it is.
 fn fits_header(n: &[i64]) -> bool
     requires { 83 ≤ length n.now }
     ensures { WhenTrue result (HeaderFits n.now) }
 {
-    if !cases::all_within(n, 0, 4, 0, 4294967295) {
-        return false;
-    }
-    if !cases::all_within(n, 5, 7, 0, 255) {
-        return false;
-    }
-    if !cases::all_within(n, 9, 10, 0, 255) {
-        return false;
-    }
-    if !cases::all_within(n, 10, 12, -128, 127) {
-        return false;
-    }
-    cases::all_within(n, 12, 76, 0, 255)
+    cases::all_within(n, 0, 4, 0, 4294967295)
+        && cases::all_within(n, 5, 7, 0, 255)
+        && cases::all_within(n, 9, 10, 0, 255)
+        && cases::all_within(n, 10, 12, -128, 127)
+        && cases::all_within(n, 12, 76, 0, 255)
 }
 
 fn hints_at(n: &[i64], k: usize) -> [OrderHint; 7]
-    requires { (k + 7 ≤ length n.now) × Bytes k (k + 7) n.now }
-    ensures { result ≡ hints_at n.now k }
+    requires { k + 7 ≤ length n.now }
+    ensures { Bytes k (k + 7) n.now → result ≡ hints_at n.now k }
 {
-    let mut out = [OrderHint(0); 7];
-    for i in 0..7 {
-        let a = cases::to_u8(n[k + i]);
-        out[i] = OrderHint(a);
-    }
-    out
+    let hints: [u8; 7] = cases::seven(n, k);
+    array::from_fn(|i| OrderHint(hints[i]))
 }
 
-// A slot's saved hints, and then their count.
+/// A slot's saved hints, and then their count.
 fn saved_at(n: &[i64], k: usize) -> Saved
-    requires { (k + 8 ≤ length n.now) × Bytes k (k + 8) n.now }
-    ensures { result ≡ saved_at n.now k }
+    requires { k + 8 ≤ length n.now }
+    ensures { Bytes k (k + 8) n.now → result ≡ saved_at n.now k }
 {
     let ref_poc = hints_at(n, k);
-    let refcnt = cases::to_u8(n[k + 7]);
+    let refcnt = cases::number(n[k + 7]);
     Saved { ref_poc, refcnt }
 }
 
 fn all_saved(n: &[i64]) -> [Saved; 7]
-    requires { (83 ≤ length n.now) × Bytes 12 76 n.now }
-    ensures { result ≡ all_saved n.now }
+    requires { 83 ≤ length n.now }
+    ensures { Bytes 12 76 n.now → result ≡ all_saved n.now }
 {
     let none = Saved {
         ref_poc: [OrderHint(0); 7],
         refcnt: 0,
     };
     let mut out = [none; 7];
+    // A loop, since what saved_at ensures has a premise, which a closure's result does not bring along.
     for i in 0..7 {
         let s = saved_at(n, 20 + 8 * i);
         out[i] = s;
@@ -75,21 +66,16 @@ pub fn switches_at(n: &[i64], k: usize) -> [bool; 7]
     requires { k + 7 ≤ length n.now }
     ensures { result ≡ switches_at n.now k }
 {
-    let mut out = [false; 7];
-    for i in 0..7 {
-        let b = cases::is_on(n[k + i]);
-        out[i] = b;
-    }
-    out
+    array::from_fn(|i| cases::is_on(n[k + i]))
 }
 
 fn pocs_of(n: &[i64]) -> Pocs
     requires { (83 ≤ length n.now) × HeaderFits n.now }
     ensures { result ≡ pocs_of n.now }
 {
-    let nbits = cases::to_u32(n[0]);
-    let n_refs = cases::to_u32(n[3]) as usize;
-    let poc = OrderHint(cases::to_u8(n[12]));
+    let nbits = cases::number(n[0]);
+    let n_refs = cases::number::<u32>(n[3]) as usize;
+    let poc = OrderHint(cases::number(n[12]));
     let ref_poc = hints_at(n, 13);
     let saved = all_saved(n);
     Pocs {
@@ -105,16 +91,16 @@ fn header_of(n: &[i64]) -> Header
     requires { (83 ≤ length n.now) × HeaderFits n.now }
     ensures { result ≡ header_of n.now }
 {
-    let width = cases::to_u32(n[1]);
-    let height = cases::to_u32(n[2]);
+    let width = cases::number(n[1]);
+    let height = cases::number(n[2]);
     let tip = cases::is_on(n[4]);
-    let sb128 = cases::to_u8(n[5]);
-    let tmvp_sample_step = cases::to_u8(n[6]);
+    let sb128 = cases::number(n[5]);
+    let tmvp_sample_step = cases::number(n[6]);
     let use_ref_frame_mvs = cases::is_on(n[7]);
     let has_bothside_refs = cases::is_on(n[8]);
-    let tip_frame_mode = cases::to_u8(n[9]);
-    let tip0 = cases::to_i8(n[10]);
-    let tip1 = cases::to_i8(n[11]);
+    let tip_frame_mode = cases::number(n[9]);
+    let tip0 = cases::number(n[10]);
+    let tip1 = cases::number(n[11]);
     let rp_ref = switches_at(n, 76);
     let pocs = pocs_of(n);
     Header {
@@ -133,56 +119,23 @@ fn header_of(n: &[i64]) -> Header
     }
 }
 
-// A line's numbers are i64.
-fn of_bool(v: bool) -> i64
-    ensures { result ≡ bit v }
-{
-    v as i64
-}
-
-// A line has no number above the largest i64.
+/// A line has no number above the largest i64.
 fn of_u64(v: u64) -> i64
     ensures { result ≡ in_i64 v }
 {
     if 9223372036854775807 < v {
-        return 9223372036854775807;
+        return i64::MAX;
     }
     v as i64
 }
 
-fn put_bools(a: [bool; 7], out: &mut [i64; 171], k: usize)
+/// Puts the seven elements from k on: f is what each converts to.
+fn put_seven<T: Copy + Into<i64>>(a: &[T; 7], out: &mut [i64; 171], k: usize)
     requires { k + 7 ≤ 171 }
-    ensures { out.new ≡ put_seven (bits a) k out.old }
+    ensures { (f : ℕ → ℤ) → ((i : ℕ) (x : T) (z : ℤ) → slice_get a.now i ≡ Some x → T.converts x z → z ≡ f i) → out.new ≡ put_seven f k out.old }
 {
-    for i in 0..7 {
-        out[k + i] = of_bool(a[i]);
-    }
-}
-
-fn put_u8s(a: [u8; 7], out: &mut [i64; 171], k: usize)
-    requires { k + 7 ≤ 171 }
-    ensures { out.new ≡ put_seven (bytes a) k out.old }
-{
-    for i in 0..7 {
-        out[k + i] = cases::of_u8(a[i]);
-    }
-}
-
-fn put_i8s(a: [i8; 7], out: &mut [i64; 171], k: usize)
-    requires { k + 7 ≤ 171 }
-    ensures { out.new ≡ put_seven (at a) k out.old }
-{
-    for i in 0..7 {
-        out[k + i] = cases::of_i8(a[i]);
-    }
-}
-
-fn put_i32s(a: [i32; 7], out: &mut [i64; 171], k: usize)
-    requires { k + 7 ≤ 171 }
-    ensures { out.new ≡ put_seven (at a) k out.old }
-{
-    for i in 0..7 {
-        out[k + i] = cases::of_i32(a[i]);
+    for (i, &v) in a.iter().enumerate() {
+        out[k + i] = v.into();
     }
 }
 
@@ -191,18 +144,14 @@ fn put_source(s: Source, out: &mut [i64; 171], k: usize)
     ensures { out.new ≡ put_source s k out.old }
 {
     let reference = s.reference;
-    let ref2ref = s.ref2ref;
-    let ref2idx = s.ref2idx;
-    let ref2sf0 = s.ref2sf0;
-    let ref2sf1 = s.ref2sf1;
-    out[k] = cases::of_u8(reference.0);
-    out[k + 1] = cases::of_i8(s.tgt);
-    out[k + 2] = cases::of_u8(s.dir);
-    out[k + 3] = cases::of_i8(s.ref2cur);
-    put_i8s(ref2ref, out, k + 4);
-    put_i8s(ref2idx, out, k + 11);
-    put_i32s(ref2sf0, out, k + 18);
-    put_i32s(ref2sf1, out, k + 25);
+    out[k] = i64::from(reference.0);
+    out[k + 1] = i64::from(s.tgt);
+    out[k + 2] = i64::from(s.dir);
+    out[k + 3] = i64::from(s.ref2cur);
+    put_seven(&s.ref2ref, out, k + 4);
+    put_seven(&s.ref2idx, out, k + 11);
+    put_seven(&s.ref2sf0, out, k + 18);
+    put_seven(&s.ref2sf1, out, k + 25);
 }
 
 fn put_sources(sources: Sources, out: &mut [i64; 171])
@@ -217,80 +166,67 @@ fn put_sources(sources: Sources, out: &mut [i64; 171])
 fn put_head(f: Frame, out: &mut [i64; 171])
     ensures { out.new ≡ put_head f out.old }
 {
-    let tip = f.tip;
     out[0] = of_u64(f.width as u64);
     out[1] = of_u64(f.height as u64);
     out[2] = of_u64(f.n_refs as u64);
-    out[3] = cases::of_u8(f.sb128);
-    out[4] = cases::of_u8(f.tmvp_sample_step);
-    out[5] = cases::of_u8(f.tip_frame_mode);
-    out[6] = cases::of_i8(f.tip0);
-    out[7] = cases::of_i8(f.tip1);
-    out[8] = cases::of_i8(tip.delta);
-    out[9] = cases::of_i32(tip.sf0);
-    out[10] = cases::of_i32(tip.sf1);
+    out[3] = i64::from(f.sb128);
+    out[4] = i64::from(f.tmvp_sample_step);
+    out[5] = i64::from(f.tip_frame_mode);
+    out[6] = i64::from(f.tip0);
+    out[7] = i64::from(f.tip1);
+    out[8] = i64::from(f.tip.delta);
+    out[9] = i64::from(f.tip.sf0);
+    out[10] = i64::from(f.tip.sf1);
     out[11] = of_u64(f.ref_flip);
 }
 
 fn put_frame(f: Frame, out: &mut [i64; 171])
     ensures { out.new ≡ put_frame f out.old }
 {
-    let rp_ref = f.rp_ref;
-    let ref_sign = f.ref_sign;
-    let pocdiff = f.pocdiff;
-    let abspocdiff = f.abspocdiff;
     let sources = f.sources;
     put_head(f, out);
-    put_bools(rp_ref, out, 12);
-    put_bools(ref_sign, out, 19);
-    put_i8s(pocdiff, out, 26);
-    put_u8s(abspocdiff, out, 33);
-    out[40] = cases::of_u8(sources.mfmv_mask);
-    out[41] = of_bool(f.use_ref_frame_mvs);
+    put_seven(&f.rp_ref, out, 12);
+    put_seven(&f.ref_sign, out, 19);
+    put_seven(&f.pocdiff, out, 26);
+    put_seven(&f.abspocdiff, out, 33);
+    out[40] = i64::from(sources.mfmv_mask);
+    out[41] = i64::from(f.use_ref_frame_mvs);
     out[42] = of_u64(sources.n_mfmvs as u64);
     put_sources(sources, out);
 }
 
-// Are the record's numbers those of the line, from the number `from` on?
-fn agrees(made: &[i64; 171], n: &[i64], from: usize) -> bool
-    requires { from + 171 ≤ length n.now }
-    ensures { WhenTrue result (Stated made.now n.now from) }
-{
-    for i in 0..171 {
-        if made[i] != n[from + i] {
-            return false;
-        }
-    }
-    true
-}
-
-// Is this the record that the line states?
+/// Is this the record that the line states, from the number `from` on?
 pub fn is_record(f: Frame, n: &[i64], from: usize) -> bool
     requires { from + 171 ≤ length n.now }
     ensures { WhenTrue result (Stated (record_of f) n.now from) }
 {
     let mut made = [0i64; 171];
     put_frame(f, &mut made);
-    agrees(&made, n, from)
+    cases::same(&made, n, from)
+}
+
+// The refusal's number, 0 for none, and the record, zeros where the header is refused.
+fn numbered(setup: Result<Frame, Refusal>) -> (u8, Frame)
+    ensures { says_setup setup ≡ record { refusal = result.0; frame = result.1 } }
+{
+    match setup {
+        Ok(f) => (0, f),
+        Err(refusal) => (refusal.number(), frame::zero_frame()),
+    }
+}
+
+fn same_frame(n: &[i64]) -> Option<bool>
+    ensures { result ≡ Some true → FrameAgrees n.now }
+{
+    if n.len() != 255 || !fits_header(n) {
+        return None;
+    }
+    let (number, f) = numbered(frame::init_frame(&header_of(n)));
+    Some(i64::from(number) == n[83] && is_record(f, n, 84))
 }
 
 pub fn judge_frame(n: &[i64]) -> Verdict
     ensures { WhenAgrees result (FrameAgrees n.now) }
 {
-    if n.len() != 255 {
-        return Verdict::NotACase;
-    }
-    if !fits_header(n) {
-        return Verdict::NotACase;
-    }
-    let setup = frame::init_frame(header_of(n));
-    let said = setup.said;
-    if cases::of_u8(frame::number(said)) != n[83] {
-        return Verdict::Differs;
-    }
-    let f = setup.frame;
-    if !is_record(f, n, 84) {
-        return Verdict::Differs;
-    }
-    Verdict::Agrees
+    same_frame(n).into()
 }

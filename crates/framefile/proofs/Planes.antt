@@ -1,5 +1,6 @@
 -- Planes of a file: those of the slots below, and where a plane ends. Assumes nothing.
-use Rattle.std.proofs.Common.{Bool, true, false, cond, List, ◌≡◌, ap, ◌∙◌, ℕ, zero, suc, ◌+◌, ◌-◌, ◌*◌, ◌≤◌, ◌<◌, add-zero, mul-le-mul, add-one, arith, get_or}
+use Rattle.std.proofs.Common.{Bool, true, false, cond, List, ◌≡◌, refl, ap, ◌∙◌, ℕ, zero, suc, ◌+◌, ◌-◌, ◌*◌, ◌≤◌, ◌<◌, add-zero, mul-le-mul, add-one, arith, get_or}
+use mir.Val.{bool_byte}
 use Rattle.loops.proofs.Turns.{row_within}
 use Rattle.framefile.specs.File.{present_before, plane_at}
 use Rattle.framefile.proofs.Bounds.{cells_low}
@@ -12,6 +13,15 @@ present_more present k = ap (present_before present) (add-one k)
 pub one_low : (b : Bool) → cond b 1 0 ≤ 1
 one_low true = omega arith
 one_low false = omega arith
+
+-- a switch as a number
+pub one_if : (b : Bool) → bool_byte b ≡ cond b 1 0
+one_if true = refl
+one_if false = refl
+
+pub byte_low : (b : Bool) → bool_byte b ≤ 1
+byte_low true = omega arith
+byte_low false = omega arith
 
 present_up : (present : List Bool) (k n : ℕ) → present_before present k ≤ present_before present (k + n)
 present_up present k zero = rw add-zero (omega arith)

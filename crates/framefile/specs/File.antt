@@ -6,8 +6,8 @@ use Rattle.loops.specs.Over.{span}
 use Rattle.loops.specs.Seven.{seven}
 use Rattle.picks.specs.declared.Pocs.{Pocs}
 use Rattle.picks.specs.declared.Saved.{Saved}
-use Rattle.text.specs.Decimal.{signed_byte}
-use Rattle.text.specs.Put.{joined}
+use Rattle.text.specs.SignedByte.{signed_byte}
+use Rattle.text.specs.Joined.{joined}
 
 -- a byte of the file; 0 past its end
 abbrev pub byte_at : List ℕ → ℕ → ℕ

@@ -7,6 +7,7 @@ ghost use Rattle.framefile.specs.File.{is_on, word_at, hints_at, saved_at, all_s
 use frame::Header;
 use levels::OrderHint;
 use picks::{Pocs, Saved};
+use std::array;
 
 // A switch is on where it is not 0.
 pub fn is_on(b: u8) -> bool
@@ -15,32 +16,19 @@ pub fn is_on(b: u8) -> bool
     b != 0
 }
 
-fn as_u32(b: u8) -> u32
-    ensures { (result ≡ b) × (result ≤ 255) }
-{
-    b as u32
-}
-
-// Four bytes, the lowest first.
+/// Four bytes, the lowest first.
 fn word_at(b: &[u8], at: usize) -> u32
     requires { at + 4 ≤ length b.now }
     ensures { result ≡ word_at b.now at }
 {
-    let low = as_u32(b[at]) + 256 * as_u32(b[at + 1]);
-    let high = as_u32(b[at + 2]) + 256 * as_u32(b[at + 3]);
-    low + 65536 * high
+    u32::from_le_bytes([b[at], b[at + 1], b[at + 2], b[at + 3]])
 }
 
 fn hints_at(b: &[u8], at: usize) -> [OrderHint; 7]
     requires { at + 7 ≤ length b.now }
     ensures { result ≡ hints_at b.now at }
 {
-    let mut out = [OrderHint(0); 7];
-    for i in 0..7 {
-        let a = b[at + i];
-        out[i] = OrderHint(a);
-    }
-    out
+    array::from_fn(|i| OrderHint(b[at + i]))
 }
 
 // A slot's saved hints, and then their count.
@@ -57,28 +45,14 @@ fn all_saved(b: &[u8]) -> [Saved; 7]
     requires { 103 ≤ length b.now }
     ensures { result ≡ all_saved b.now }
 {
-    let none = Saved {
-        ref_poc: [OrderHint(0); 7],
-        refcnt: 0,
-    };
-    let mut out = [none; 7];
-    for i in 0..7 {
-        let s = saved_at(b, 37 + 8 * i);
-        out[i] = s;
-    }
-    out
+    array::from_fn(|i| saved_at(b, 37 + 8 * i))
 }
 
 fn switches_at(b: &[u8], at: usize) -> [bool; 7]
     requires { at + 7 ≤ length b.now }
     ensures { result ≡ switches_at b.now at }
 {
-    let mut out = [false; 7];
-    for i in 0..7 {
-        let on = is_on(b[at + i]);
-        out[i] = on;
-    }
-    out
+    array::from_fn(|i| is_on(b[at + i]))
 }
 
 // For each slot, whether its plane is in the file.
@@ -166,20 +140,14 @@ pub fn read_ends(b: &[u8], n: usize, ends: &mut [usize])
     }
 }
 
-fn one_if(here: bool) -> usize
-    ensures { result ≡ cond here 1 0 }
-{
-    if here { 1 } else { 0 }
-}
-
 // How many of the slots below k have their plane in the file.
 fn present_before(present: [bool; 7], k: usize) -> usize
     requires { k ≤ 7 }
     ensures { (result ≡ present_before present k) × (result ≤ k) }
 {
     let mut n = 0;
-    for i in 0..k {
-        n += one_if(present[i]);
+    for &here in &present[..k] {
+        n += usize::from(here);
     }
     n
 }
@@ -198,62 +166,55 @@ pub fn put_row(line: &[u8], planes: &mut [i8], at: usize)
     requires { at + length line.now ≤ length planes.old }
     ensures { planes.new ≡ put_row line.now at planes.old }
 {
-    for i in 0..line.len() {
-        let v = text::signed_byte(line[i]);
-        planes[at + i] = v;
+    for (i, &byte) in line.iter().enumerate() {
+        planes[at + i] = text::signed_byte(byte);
     }
 }
 
-// A plane's rows, one behind the other from `from` on in the file, stride blocks apart in the planes.
-fn put_plane(
-    b: &[u8],
-    from: usize,
-    wide: usize,
-    high: usize,
-    stride: usize,
-    planes: &mut [i8],
-    at: usize,
-)
-    requires { (wide ≤ stride) × (stride ≤ 256) × (high ≤ 256) × (from + 6 * (high * wide) ≤ length b.now) × (at + 6 * (high * stride) ≤ length planes.old) }
-    ensures { planes.new ≡ put_plane b.now from wide high stride at planes.old }
-{
-    for y in 0..high {
-        let row = from + 6 * (y * wide);
-        let end = row + 6 * wide;
-        put_row(&b[row..end], planes, at + 6 * (y * stride));
-    }
-}
-
-// The plane of slot k, where a file with n tile columns has one.
-fn put_present(
-    b: &[u8],
+/// Which planes a file has and how many blocks they are, and how far apart their rows go.
+#[derive(Clone, Copy)]
+struct Layout {
     present: [bool; 7],
-    n: usize,
+    /// The file's tile columns.
+    columns: usize,
     wide: usize,
     high: usize,
+    /// From row to row of the planes' list, in blocks.
     stride: usize,
-    planes: &mut [i8],
-    k: usize,
-)
-    requires { (n ≤ 255) × (wide ≤ stride) × (stride ≤ 256) × (high ≤ 256) × (plane_at present n wide high 7 ≤ length b.now) × (2752512 ≤ length planes.old) × (k < 7) }
-    ensures { planes.new ≡ put_present b.now present n wide high stride k planes.old }
+    ghost few: { columns ≤ 255 },
+    ghost narrow: { wide ≤ stride },
+    ghost stride_low: { stride ≤ 256 },
+    ghost high_low: { high ≤ 256 },
+}
+
+/// A plane's rows, one behind the other from `from` on in the file, go to the planes, from `at` on.
+fn put_plane(b: &[u8], from: usize, l: Layout, planes: &mut [i8], at: usize)
+    requires in_file { from + 6 * (l.high * l.wide) ≤ length b.now }
+    requires room { at + 6 * (l.high * l.stride) ≤ length planes.old }
+    ensures { planes.new ≡ put_plane b.now from l.wide l.high l.stride at planes.old }
 {
-    if !present[k] {
+    for y in 0..l.high {
+        let row = from + 6 * (y * l.wide);
+        let end = row + 6 * l.wide;
+        put_row(&b[row..end], planes, at + 6 * (y * l.stride));
+    }
+}
+
+/// The plane of slot k, where the file has one.
+fn put_present(b: &[u8], l: Layout, planes: &mut [i8], k: usize)
+    requires in_file { plane_at l.present l.columns l.wide l.high 7 ≤ length b.now }
+    requires room { 2752512 ≤ length planes.old }
+    requires slot { k < 7 }
+    ensures { planes.new ≡ put_present b.now l.present l.columns l.wide l.high l.stride k planes.old }
+{
+    if !l.present[k] {
         return;
     }
-    let from = plane_at(present, n, wide, high, k);
-    put_plane(
-        b,
-        from,
-        wide,
-        high,
-        stride,
-        planes,
-        k * (6 * (high * stride)),
-    );
+    let from = plane_at(l.present, l.columns, l.wide, l.high, k);
+    put_plane(b, from, l, planes, k * (6 * (l.high * l.stride)));
 }
 
-// The planes that a file with n tile columns has; the others stay as they were.
+/// The planes that a file with n tile columns has; the others stay as they were.
 pub fn put_planes(
     b: &[u8],
     present: [bool; 7],
@@ -266,7 +227,14 @@ pub fn put_planes(
     requires { (n ≤ 255) × (wide ≤ stride) × (stride ≤ 256) × (high ≤ 256) × (plane_at present n wide high 7 ≤ length b.now) × (2752512 ≤ length planes.old) }
     ensures { planes.new ≡ put_planes b.now present n wide high stride planes.old }
 {
+    let l = Layout {
+        present,
+        columns: n,
+        wide,
+        high,
+        stride,
+    };
     for k in 0..7 {
-        put_present(b, present, n, wide, high, stride, planes, k);
+        put_present(b, l, planes, k);
     }
 }

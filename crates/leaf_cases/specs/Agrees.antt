@@ -1,7 +1,8 @@
 -- What a verdict that a case agrees says of the numbers of its line. Assumes nothing.
-use Rattle.std.specs.Prelude.{◌≡◌, List, ℕ, ◌+◌, ◌<◌, ℤ, pos, nat_abs, length}
+use Rattle.std.specs.Prelude.{◌≡◌, Result, Ok, Err, List, ℕ, ◌+◌, ◌<◌, ℤ, pos, nat_abs, length}
 use Rattle.levels.specs.declared.Mv.{Mv}
 use Rattle.levels.specs.declared.QMv.{QMv}
+use Rattle.levels.specs.declared.Refusal.{Refusal}
 use Rattle.levels.specs.Answer.{Said}
 use Rattle.env.specs.Hints.{SaidDiff, poc_diff}
 use Rattle.mv.specs.Averages.{smoothed, gap_mean}
@@ -20,6 +21,11 @@ packed_at n k = record { y = at n k; x = at n (k + 1) }
 -- each number has 32 bits, signed
 abbrev pub All32 : List ℤ → Type 0
 All32 n = (k : ℕ) → k < length n → Is32 (at n k)
+
+-- the value of an answer, and v beside a refusal
+abbrev pub value_or : {T : Type 0} → T → Result T Refusal → T
+value_or v (Ok x) = x
+value_or v (Err e) = v
 
 -- the refusal's number and the vector are those of the answer
 pub record Stated (s : Said) (number : ℤ) (v : Mv) : Type 0 where

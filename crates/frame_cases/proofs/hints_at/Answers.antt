@@ -1,23 +1,17 @@
 -- `frame_cases::hints_at` meets its contract. Assumes nothing.
-use Rattle.std.proofs.Common.{refl, ap, ◌+◌, arith, w64, SFits, rules}
-use Rattle.loops.proofs.Seven.{stored, all_stored}
-use Rattle.intops.proofs.Signed.{back}
+use Rattle.std.proofs.Common.{◌≡◌, ap, ◌∙◌, length, get_or, ◌+◌, arith, rules}
+use Rattle.std.proofs.lemmas.Option.{slice_get-get_or}
+use Rattle.loops.proofs.Seven.{made, seven_is}
+use Rattle.cases.specs.Numbers.{hint, hint_at}
+use Rattle.cases.proofs.Elements.{as_u8}
 use Rattle.frame_cases.specs.FrameCase.{hints_at}
-use Rattle.cases.specs.Numbers.{at, hint_at, hint}
 use Rattle.frame_cases.proofs.hints_at.Goals as goal
-
-pub loop-i-init : goal.loop-i-init
-loop-i-init c = (omega arith, refl)
-
-pub loop-i-preserved : goal.loop-i-preserved
-loop-i-preserved c =
-    let l = c.loop-i in
-    let n = c.args.n.now in
-    let j = c.args.k + l.i in
-    let f : SFits w64 (at n j) = search rules in
-    let e = (simp back at c.to_u8-a.ensures) (c.requires.1 j (omega arith) (omega arith)) in
-    (omega arith, stored (λ i. hint_at n (c.args.k + i)) l.i l.out _ _ c.loop-i-test.true (ap hint e) l.invariant.1)
 
 pub returns : goal.returns
 unfolding hints_at
-returns c = all_stored _ _ _ _ c.loop-i-test.false c.loop-i.invariant.1
+returns c = λ h.
+    let k = c.args.k in
+    let xs = c.seven-hints.result in
+    let long : length xs ≡ 7 = search rules in
+    seven_is (λ i. hint_at c.args.n.now (k + i)) (hint 0) _ c.from_fn.ensures.items.long
+    (λ i l. made _ (λ i y. y ≡ hint (get_or xs i 0)) _ 7 (λ i y q l k. search rules) _ c.from_fn.ensures.items (hint 0) i l ∙ ap hint (as_u8 (c.seven-hints.ensures i (get_or xs i 0) l (slice_get-get_or xs i 0 (omega arith))) (h (k + i) (omega arith) (omega arith))))

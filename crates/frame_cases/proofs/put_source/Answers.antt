@@ -2,7 +2,8 @@
 use Rattle.std.proofs.Common.{◌≡◌, w8, w64, SFits, rules}
 use borrow.Author.Rules.{sfits_of}
 use Rattle.intops.proofs.Signed.{back}
-use Rattle.frame_cases.proofs.FrameCase.{source_is}
+use Rattle.cases.specs.Numbers.{at}
+use Rattle.frame_cases.proofs.FrameCase.{source_is, of_signed}
 use Rattle.frame_cases.proofs.put_source.Goals.{Start}
 use Rattle.frame_cases.proofs.put_source.Goals as goal
 
@@ -14,10 +15,10 @@ pub returns : goal.returns
 returns c =
     let x = c.args.s in
     let (f1, f3) = known (goal.at.returns c).Start in
-    let g0 : SFits w64 c.of_u8.result = sfits_of c.of_u8.type_inv in
-    let g1 : SFits w64 c.of_i8.result = sfits_of c.of_i8.type_inv in
-    let g2 : SFits w64 c.of_u8-2.result = sfits_of c.of_u8-2.type_inv in
-    let g3 : SFits w64 c.of_i8-2.result = sfits_of c.of_i8-2.type_inv in
-    let e1 : c.of_i8.result ≡ x.tgt = simp back at c.of_i8.ensures in
-    let e3 : c.of_i8-2.result ≡ x.ref2cur = simp back at c.of_i8-2.ensures in
-    source_is x c.args.k c.args.out.now c.of_u8.ensures e1 c.of_u8-2.ensures e3 (simp back at c.put_i8s.ensures) c.put_i8s-2.ensures c.put_i32s.ensures c.put_i32s-2.ensures
+    let g0 : SFits w64 c.from.result = sfits_of c.from.type_inv in
+    let g1 : SFits w64 c.from-2.result = sfits_of c.from-2.type_inv in
+    let g2 : SFits w64 c.from-3.result = sfits_of c.from-3.type_inv in
+    let g3 : SFits w64 c.from-4.result = sfits_of c.from-4.type_inv in
+    let e1 : c.from-2.result ≡ x.tgt = simp back at c.from-2.ensures in
+    let e3 : c.from-4.result ≡ x.ref2cur = simp back at c.from-4.ensures in
+    source_is x c.args.k c.args.out.now c.from.ensures e1 c.from-3.ensures e3 (simp back at (c.put_seven.ensures (at x.ref2ref) (of_signed x.ref2ref))) (c.put_seven-2.ensures (at x.ref2idx) (of_signed x.ref2idx)) (c.put_seven-3.ensures (at x.ref2sf0) (of_signed x.ref2sf0)) (c.put_seven-4.ensures (at x.ref2sf1) (of_signed x.ref2sf1))

@@ -1,17 +1,9 @@
 -- `framefile::hints_at` meets its contract. Assumes nothing.
-use Rattle.std.proofs.Common.{refl, ◌+◌, arith}
-use Rattle.loops.proofs.Seven.{stored, all_stored}
+use Rattle.std.proofs.Common.{◌+◌, rules}
+use Rattle.loops.proofs.Seven.{made_is}
 use Rattle.framefile.specs.File.{hint_at, hints_at}
 use Rattle.framefile.proofs.hints_at.Goals as goal
 
-pub loop-i-init : goal.loop-i-init
-loop-i-init c = (omega arith, refl)
-
-pub loop-i-preserved : goal.loop-i-preserved
-loop-i-preserved c =
-    let l = c.loop-i in
-    (omega arith, stored (λ i. hint_at c.args.b.now (c.args.at + i)) l.i l.out _ _ c.loop-i-test.true refl l.invariant.1)
-
 pub returns : goal.returns
 unfolding hints_at
-returns c = all_stored _ _ _ _ c.loop-i-test.false c.loop-i.invariant.1
+returns c = made_is _ _ (λ i. hint_at c.args.b.now (c.args.at + i)) (λ i y q l k. search rules) _ c.from_fn.ensures.items

@@ -6,4 +6,4 @@ use Rattle.framefile.proofs.put_planes.Given as goal
 
 abbrev pub invariant-loop-k : goal.invariant-loop-k
 invariant-loop-k l =
-    (length l.planes ≡ length l.initial.planes) × (span (put_present l.b l.present l.n l.wide l.high l.stride) l.k 7 l.planes ≡ span (put_present l.b l.present l.n l.wide l.high l.stride) 0 7 l.initial.planes)
+    (length l.planes ≡ length l.initial.planes) × (span (put_present l.b l.fn.present l.n l.wide l.high l.stride) l.k 7 l.planes ≡ span (put_present l.b l.fn.present l.n l.wide l.high l.stride) 0 7 l.initial.planes)

@@ -6,15 +6,15 @@ use Rattle.framefile.proofs.Bounds.{cells_low}
 use Rattle.framefile.proofs.Planes.{plane_within}
 use Rattle.framefile.proofs.put_present.Goals as goal
 
-pub returns-then-not-present-k : goal.returns-then-not-present-k
-returns-then-not-present-k c = let a = c.args in let t : get_or a.present a.k false ≡ false = not-true (get_or a.present a.k false) c.if-not-present-k.true-raw in rw t
+pub returns-then-not-l-k : goal.returns-then-not-l-k
+returns-then-not-l-k c = let a = c.args in let t : get_or a.l.present a.k false ≡ false = not-true (get_or a.l.present a.k false) c.if-not-l-k.true-raw in rw t
 
 pub put_plane-requires : goal.put_plane-requires
 put_plane-requires c =
     let a = c.args in
-    let t : get_or a.present a.k false ≡ true = not-false (get_or a.present a.k false) c.if-not-present-k.false-raw in
-    let e : c.plane_at-from.result + 6 * (a.high * a.wide) ≤ length a.b.now = omega (arith, c.plane_at-from.ensures, plane_within a.present a.n a.wide a.high a.k c.requires.6 t, c.requires.4) in
-    (c.requires.1, c.requires.2, c.requires.3, e, omega (arith, row_within a.k 7 (6 * (a.high * a.stride)) c.requires.6, cells_low a.high a.stride c.requires.3 c.requires.2, c.requires.5))
+    let t : get_or a.l.present a.k false ≡ true = not-false (get_or a.l.present a.k false) c.if-not-l-k.false-raw in
+    let e : c.plane_at-from.result + 6 * (a.l.high * a.l.wide) ≤ length a.b.now = omega (arith, c.plane_at-from.ensures, plane_within a.l.present a.l.columns a.l.wide a.l.high a.k c.requires.slot t, c.requires.in_file) in
+    record { in_file = e; room = omega (arith, row_within a.k 7 (6 * (a.l.high * a.l.stride)) c.requires.slot, cells_low a.l.high a.l.stride a.l.high_low a.l.stride_low, c.requires.room) }
 
 pub returns : goal.returns
-returns c = let a = c.args in let t : get_or a.present a.k false ≡ true = not-false (get_or a.present a.k false) c.if-not-present-k.false-raw in rw t (rw c.plane_at-from.ensures at c.put_plane.ensures)
+returns c = let a = c.args in let t : get_or a.l.present a.k false ≡ true = not-false (get_or a.l.present a.k false) c.if-not-l-k.false-raw in rw t (rw c.plane_at-from.ensures at c.put_plane.ensures)

@@ -11,8 +11,8 @@ loop-i-init c = (refl, refl)
 pub loop-i-preserved : goal.loop-i-preserved
 loop-i-preserved c =
     let l = c.loop-i in
-    let f : SFits w8 c.signed_byte-v.result = search rules in
-    (simp length-set l.invariant.0, simp back (turned (put_byte c.args.line.now c.args.at) (length c.args.line.now) l.i l.planes _ _ c.loop-i-test.true (ap (set l.planes (c.args.at + l.i)) c.signed_byte-v.ensures) l.invariant.1))
+    let f : SFits w8 c.signed_byte.result = search rules in
+    (simp length-set l.invariant.0, simp back (turned (put_byte c.args.line.now c.args.at) (length c.args.line.now) l.i l.planes _ _ c.loop-i-test.true (ap (set l.planes (c.args.at + l.i)) c.signed_byte.ensures) l.invariant.1))
 
 pub returns : goal.returns
 unfolding put_row

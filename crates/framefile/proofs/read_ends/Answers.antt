@@ -1,8 +1,7 @@
 -- `framefile::read_ends` meets its contract. The invariant: the ends that are read, with those that are still to come, are all. Assumes nothing.
-use Rattle.std.proofs.Common.{◌≡◌, refl, ap, [], ◌∷◌, ℕ, ◌+◌, ◌<◌, arith, length, set, length-set}
+use Rattle.std.proofs.Common.{◌≡◌, refl, ap, [], ◌∷◌, ◌++◌, ◌∙◌, ℕ, ◌+◌, ◌<◌, add-one, arith, length, take, set, take-suc-set, length-set}
 use Rattle.std.proofs.Math.Nat.{sub-zero}
-use Rattle.text.specs.Put.{Put}
-use Rattle.text.proofs.Put.{put_one, put_as, joined_more, joined_all}
+use Rattle.text.proofs.Joined.{joined_more, joined_all}
 use Rattle.framefile.specs.File.{end_at}
 use Rattle.framefile.proofs.read_ends.Goals as goal
 
@@ -13,11 +12,11 @@ pub loop-i-preserved : goal.loop-i-preserved
 loop-i-preserved c =
     let l = c.loop-i in
     let h : l.i < length l.ends = omega (arith, c.loop-i-test.true, c.requires, l.invariant.0) in
-    let p : Put l.ends l.i 1 (end_at c.args.b.now l.i ∷ []) (set l.ends l.i c.end_at-end.result) (l.i + 1) = put_as (ap (λ (n : ℕ). n ∷ []) c.end_at-end.ensures) (put_one l.ends l.i c.end_at-end.result h) in
-    (rw length-set l.invariant.0, omega (arith, c.loop-i-test.true), joined_more (λ i. end_at c.args.b.now i ∷ []) c.args.n l.i c.loop-i-test.true l.invariant.2 p)
+    let p : take (l.i + 1) (set l.ends l.i c.end_at-end.result) ≡ take l.i l.ends ++ (end_at c.args.b.now l.i ∷ []) = rw add-one (take-suc-set l.ends l.i c.end_at-end.result h) ∙ ap (λ (n : ℕ). take l.i l.ends ++ (n ∷ [])) c.end_at-end.ensures in
+    (rw length-set l.invariant.0, omega (arith, c.loop-i-test.true), joined_more _ _ (λ i. end_at c.args.b.now i ∷ []) c.args.n l.i c.loop-i-test.true l.invariant.2 p)
 
 pub returns : goal.returns
 returns c =
     let l = c.loop-i in
     let e : l.i ≡ c.args.n = omega (arith, c.loop-i-test.false, l.invariant.1) in
-    rw e at (joined_all l.ends l.i _ _ l.i c.loop-i-test.false l.invariant.2)
+    rw e at (joined_all _ _ _ l.i c.loop-i-test.false l.invariant.2)

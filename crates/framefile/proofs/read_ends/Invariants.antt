@@ -1,6 +1,6 @@
 -- `framefile::read_ends` meets its contract. The invariant: the ends that are read, with those that are still to come, are all. Assumes nothing.
 use Rattle.std.proofs.Common.{◌≡◌, [], ◌∷◌, ◌++◌, ◌-◌, ◌≤◌, length, take}
-use Rattle.text.specs.Put.{joined}
+use Rattle.text.specs.Joined.{joined}
 use Rattle.framefile.specs.File.{end_at, ends_of}
 use Rattle.framefile.proofs.read_ends.Given as goal
 
