@@ -1,18 +1,8 @@
 -- What a verdict that a kept case agrees says of the numbers that its lines have set. Assumes nothing.
-use Rattle.std.specs.Prelude.{◌≡◌, List, ℕ, ◌+◌, ◌≤◌, ◌<◌, ℤ, pos, length, get_or}
+use Rattle.std.specs.Prelude.{◌≡◌, List, ℕ, ℤ, length, get_or}
 use Rattle.store.specs.Store.{Store}
-use Rattle.cases.specs.Numbers.{at}
 use Rattle.load_cases.specs.LoadCase.{Listed, StoreListed, CallAgrees}
 use Rattle.pass_cases.specs.PassCase.{PassAgrees}
-
--- the first r elements of a list are the numbers from `from` on; and those of a list of bytes
-pub record Copied (n : List ℤ) (from r : ℕ) (l : List ℤ) : Type 0 where
-  pub held : r ≤ length l
-  pub same : (k : ℕ) → k < r → at n (from + k) ≡ at l k
-
-pub record CopiedBytes (n : List ℤ) (from r : ℕ) (l : List ℕ) : Type 0 where
-  pub held : r ≤ length l
-  pub same : (k : ℕ) → k < r → at n (from + k) ≡ pos (get_or l k 0)
 
 -- eight lengths
 pub record Are (l : List ℕ) (a b c d e f g h : ℕ) : Type 0 where

@@ -2,161 +2,63 @@
 // a pass that is lent them is judged.
 #![tactic(auto)]
 
-ghost use Rattle.std.specs.Prelude.{◌≡◌, ℕ, ◌+◌, ◌≤◌, ◌<◌, pos, length, get_or};
-ghost use Rattle.store.specs.Store.{pack};
+ghost use Rattle.std.specs.Prelude.{◌≡◌, ℕ, ◌+◌, ◌≤◌, ◌<◌, Ok, Some, IfSome, length, slice_get};
+ghost use Rattle.field.specs.Lent.{store_of};
 ghost use Rattle.cases.specs.Numbers.{at};
-ghost use Rattle.cases.specs.Verdicts.{WhenTrue, WhenAgrees};
-ghost use Rattle.kept_cases.specs.KeptCase.{Are, Copied, CopiedBytes, ListsAgree, CaseAgrees};
+ghost use Rattle.cases.specs.Verdicts.{WhenAgrees};
+ghost use Rattle.kept_cases.specs.KeptCase.{ListsAgree, CaseAgrees};
 
 use cases::Verdict;
+use field::Field;
 use load_cases::{FIELD_REF, FIELD_X, FIELD_Y, MAP_X, MAP_Y, PLANES, TRAJ_X, TRAJ_Y};
+use std::num::TryFromIntError;
+use store::Pairs;
 
-// Copies count numbers from a place on, and answers how many were copied: all that are there, fit
-// and have room.
-fn copy_i32s(n: &[i64], from: usize, count: usize, numbers: &mut [i32]) -> usize
-    ensures { Copied n.now from result numbers.new }
+// Copies count numbers from a place on to the front of a list; none where one is missing, does not
+// fit or has no room.
+fn copy<T: Copy + TryFrom<i64, Error = TryFromIntError>>(
+    n: &[i64],
+    from: usize,
+    count: usize,
+    to: &mut [T],
+) -> Option<()>
+    ensures room { IfSome result (λ _. count ≤ length to.new) }
+    ensures copied { IfSome result (λ _. (k : ℕ) (v : T) → k < count → slice_get to.new k ≡ Some v → T.try_from_gives (at n.now (from + k)) (Ok v)) }
 {
-    if n.len() < from {
-        return 0;
+    if to.len() < count {
+        return None;
     }
-    let mut i = 0;
-    while i < count {
-        if n.len() - from <= i {
-            return i;
-        }
-        if numbers.len() <= i {
-            return i;
-        }
-        let v = n[from + i];
-        if !cases::within(v, -2147483648, 2147483647) {
-            return i;
-        }
-        numbers[i] = cases::to_i32(v);
-        i += 1;
-    }
-    i
-}
-
-fn copy_i8s(n: &[i64], from: usize, count: usize, bytes: &mut [i8]) -> usize
-    ensures { Copied n.now from result bytes.new }
-{
-    if n.len() < from {
-        return 0;
-    }
-    let mut i = 0;
-    while i < count {
-        if n.len() - from <= i {
-            return i;
-        }
-        if bytes.len() <= i {
-            return i;
-        }
-        let v = n[from + i];
-        if !cases::within(v, -128, 127) {
-            return i;
-        }
-        bytes[i] = cases::to_i8(v);
-        i += 1;
-    }
-    i
-}
-
-fn copy_u8s(n: &[i64], from: usize, count: usize, refs: &mut [u8]) -> usize
-    ensures { CopiedBytes n.now from result refs.new }
-{
-    if n.len() < from {
-        return 0;
-    }
-    let mut i = 0;
-    while i < count {
-        if n.len() - from <= i {
-            return i;
-        }
-        if refs.len() <= i {
-            return i;
-        }
-        let v = n[from + i];
-        if !cases::within(v, 0, 255) {
-            return i;
-        }
-        refs[i] = cases::to_u8(v);
-        i += 1;
-    }
-    i
-}
-
-// Are these the lengths?
-fn are(
-    lengths: [usize; 8],
-    a: usize,
-    b: usize,
-    c: usize,
-    d: usize,
-    e: usize,
-    f: usize,
-    g: usize,
-    h: usize,
-) -> bool
-    ensures { WhenTrue result (Are lengths a b c d e f g h) }
-{
-    if lengths[0] != a {
-        return false;
-    }
-    if lengths[1] != b {
-        return false;
-    }
-    if lengths[2] != c {
-        return false;
-    }
-    if lengths[3] != d {
-        return false;
-    }
-    if lengths[4] != e {
-        return false;
-    }
-    if lengths[5] != f {
-        return false;
-    }
-    if lengths[6] != g {
-        return false;
-    }
-    if lengths[7] != h {
-        return false;
-    }
-    true
+    cases::read(n, from, &mut to[..count])
 }
 
 // A pass has fourteen numbers, and reads no planes.
 fn judge_lists(
-    field_y: &mut [i32],
-    field_x: &mut [i32],
-    field_ref: &mut [u8],
-    traj_y: &mut [i32],
-    traj_x: &mut [i32],
-    map_y: &mut [i8],
-    map_x: &mut [i8],
+    field: &mut Field<'_>,
+    trajectories: &mut Pairs<'_, i32>,
+    maps: &mut Pairs<'_, i8>,
     planes: &[i8],
     want: &[i64],
     setup: &[i64],
     n: &[i64],
 ) -> Verdict
-    ensures { WhenAgrees result (ListsAgree setup.now n.now planes.now
-        (pack field_y.old field_x.old field_ref.old traj_y.old traj_x.old map_y.old map_x.old)
-        want.now) }
+    ensures { WhenAgrees result (ListsAgree setup.now n.now planes.now (store_of field.old trajectories.old maps.old) want.now) }
 {
     if n.len() == 14 {
-        return pass_cases::judge_pass(
-            field_y, field_x, field_ref, traj_y, traj_x, map_y, map_x, want, setup, n,
-        );
+        return pass_cases::judge_pass(field, trajectories, maps, want, setup, n);
     }
-    load_cases::judge_call(
-        field_y, field_x, field_ref, traj_y, traj_x, map_y, map_x, planes, want, setup, n,
-    )
+    load_cases::judge_call(field, trajectories, maps, planes, want, setup, n)
 }
 
-// The room is that between the places where the lists begin.
-pub fn judge(lengths: [usize; 8], cells: &[i64], want: &[i64], setup: &[i64], n: &[i64]) -> Verdict
-    ensures { WhenAgrees result (CaseAgrees lengths cells.now want.now setup.now n.now) }
+// The verdict on the lists, if the numbers that are set make them. The room of each is that between
+// the places where the lists begin.
+fn verdict(
+    lengths: [usize; 8],
+    cells: &[i64],
+    want: &[i64],
+    setup: &[i64],
+    n: &[i64],
+) -> Option<Verdict>
+    ensures { IfSome result (λ v. WhenAgrees v (CaseAgrees lengths cells.now want.now setup.now n.now)) }
 {
     let mut field_y = [0i32; 2048];
     let mut field_x = [0i32; 2048];
@@ -166,28 +68,42 @@ pub fn judge(lengths: [usize; 8], cells: &[i64], want: &[i64], setup: &[i64], n:
     let mut map_y = [0i8; 21510];
     let mut map_x = [0i8; 21510];
     let mut planes = [0i8; 32256];
-    let a = copy_i32s(cells, FIELD_Y, lengths[0], &mut field_y);
-    let b = copy_i32s(cells, FIELD_X, lengths[1], &mut field_x);
-    let c = copy_u8s(cells, FIELD_REF, lengths[2], &mut field_ref);
-    let d = copy_i32s(cells, TRAJ_Y, lengths[3], &mut traj_y);
-    let e = copy_i32s(cells, TRAJ_X, lengths[4], &mut traj_x);
-    let f = copy_i8s(cells, MAP_Y, lengths[5], &mut map_y);
-    let g = copy_i8s(cells, MAP_X, lengths[6], &mut map_x);
-    let h = copy_i8s(cells, PLANES, lengths[7], &mut planes);
-    if !are(lengths, a, b, c, d, e, f, g, h) {
-        return Verdict::NotACase;
-    }
-    judge_lists(
-        &mut field_y[..a],
-        &mut field_x[..b],
-        &mut field_ref[..c],
-        &mut traj_y[..d],
-        &mut traj_x[..e],
-        &mut map_y[..f],
-        &mut map_x[..g],
+    let [a, b, c, d, e, f, g, h] = lengths;
+    copy(cells, FIELD_Y, a, &mut field_y)?;
+    copy(cells, FIELD_X, b, &mut field_x)?;
+    copy(cells, FIELD_REF, c, &mut field_ref)?;
+    copy(cells, TRAJ_Y, d, &mut traj_y)?;
+    copy(cells, TRAJ_X, e, &mut traj_x)?;
+    copy(cells, MAP_Y, f, &mut map_y)?;
+    copy(cells, MAP_X, g, &mut map_x)?;
+    copy(cells, PLANES, h, &mut planes)?;
+    let mut field = Field {
+        y: &mut field_y[..a],
+        x: &mut field_x[..b],
+        reference: &mut field_ref[..c],
+    };
+    let mut trajectories = Pairs {
+        y: &mut traj_y[..d],
+        x: &mut traj_x[..e],
+    };
+    let mut maps = Pairs {
+        y: &mut map_y[..f],
+        x: &mut map_x[..g],
+    };
+    Some(judge_lists(
+        &mut field,
+        &mut trajectories,
+        &mut maps,
         &planes[..h],
         want,
         setup,
         n,
-    )
+    ))
+}
+
+/// Judges the case whose lists have these lengths and numbers.
+pub fn judge(lengths: [usize; 8], cells: &[i64], want: &[i64], setup: &[i64], n: &[i64]) -> Verdict
+    ensures { WhenAgrees result (CaseAgrees lengths cells.now want.now setup.now n.now) }
+{
+    verdict(lengths, cells, want, setup, n).unwrap_or(Verdict::NotACase)
 }

@@ -1,16 +1,18 @@
 -- Laws of a kept load: what a line asks by its parts, the call by what is asked, its verdict. Assumes nothing.
-use Rattle.std.proofs.Common.{◌≡◌, ap, ◌∙◌, subst, Bool, true, List, ℕ, ◌+◌, ℤ, pos, nat_abs}
+use Rattle.std.proofs.Common.{Some, slice_get, get_or, ◌≡◌, ap, ◌∙◌, subst, Bool, true, List, ℕ, ◌+◌, ℤ, pos, nat_abs}
+use Rattle.std.proofs.lemmas.Option.{slice_get-get_or}
 use Rattle.frame.specs.declared.Frame.{Frame}
 use Rattle.store.specs.Store.{Store}
 use Rattle.store.specs.Calls.{called}
+use Rattle.load.specs.declared.Asked.{Asked}
+use Rattle.load.specs.Asked.{call_of}
 use Rattle.load.specs.Calls.{answer, load}
 use Rattle.cases.specs.Numbers.{at, is_on}
-use Rattle.load_cases.specs.declared.Asked.{Asked}
 use Rattle.cases.specs.Verdicts.{WhenTrue, WhenAgrees}
 use Rattle.cases.specs.declared.Verdict.{Verdict}
 use Rattle.cases.proofs.Verdicts.{when_agrees}
 use Rattle.frame_cases.specs.FrameCase.{record_of, Stated}
-use Rattle.load_cases.specs.LoadCase.{asked_at, call_from, StoreListed, CallAgrees}
+use Rattle.load_cases.specs.LoadCase.{Listed, ListedBytes, asked_at, StoreListed, CallAgrees}
 
 -- what is asked, of the same by other names
 pub asked_is : (n : List ℤ) (k : ℕ) {w t h : Bool} {a b c d : ℕ}
@@ -22,7 +24,7 @@ asked_is n k e1 e2 e3 e4 e5 e6 e7 = cc
 
 -- an answer and a store after a call
 abbrev Left : Frame → List ℤ → Store → ℕ → Store → Asked → Type 0
-Left f planes s r u a = (r ≡ answer (call_from f a planes) s) × (u ≡ called answer load (call_from f a planes) s)
+Left f planes s r u a = (r ≡ answer (call_of f a planes) s) × (u ≡ called answer load (call_of f a planes) s)
 
 pub left_by : (f : Frame) (planes : List ℤ) (s : Store) {a b : Asked} {u : Store} {r m : ℕ} → a ≡ b → r ≡ m → Left f planes s m u a → Left f planes s r u b
 left_by f planes s {a} {b} {u} {r} {m} e q h = let k = subst (Left f planes s m u) e h in (q ∙ k.0, k.1)
@@ -33,3 +35,10 @@ pub agreed : (v : Verdict) (f : Frame) (setup n planes : List ℤ) (s : Store) (
     → WhenAgrees v ((at n 7 ≡ pos r) × (b ≡ true)) → WhenAgrees v (CallAgrees setup n planes s want)
 agreed v f setup n planes s want b {u} st l same =
     when_agrees v (λ h. record { frame = f; stated = st; same_answer = h.0 ∙ ap pos l.0; same_store = subst (λ (x : Store). StoreListed x want) l.1 (rw h.1 at same) })
+
+-- a list whose elements are the numbers, one by one
+pub listed : (l n : List ℤ) (from : ℕ) → ((k : ℕ) (v : ℤ) → slice_get l k ≡ Some v → at n (from + k) ≡ v) → Listed l n from
+listed l n from h = λ k b. h k (at l k) (slice_get-get_or l k (pos 0) b)
+
+pub listed_bytes : (l : List ℕ) (n : List ℤ) (from : ℕ) → ((k v : ℕ) → slice_get l k ≡ Some v → at n (from + k) ≡ pos v) → ListedBytes l n from
+listed_bytes l n from h = λ k b. h k (get_or l k 0) (slice_get-get_or l k 0 b)

@@ -1,10 +1,14 @@
 -- Laws of a setup: it and its parts, of the same by other names. Assumes nothing.
-use Rattle.std.proofs.Common.{◌≡◌, Bool, List, [], ◌∷◌, ℕ, ◌+◌, ℤ, nat_abs}
+use Rattle.std.proofs.Common.{◌⊎◌, ◌<◌, Some, slice_get, length, arith, pos, w8, w32, SFits, ◌≡◌, Bool, List, [], ◌∷◌, ℕ, ◌+◌, ℤ, nat_abs, get_or}
+use Rattle.std.proofs.lemmas.Option.{slice_get-get_or}
+use Rattle.std.specs.Int.{FitsUnsignedBits}
+use Rattle.loops.proofs.Seven.{seven_is}
+use Rattle.cases.proofs.Elements.{as_u8, as_i8, as_i32}
 use Rattle.entry.specs.declared.Source.{Source}
 use Rattle.frame.specs.declared.Tip.{Tip}
 use Rattle.frame.specs.declared.Sources.{Sources}
 use Rattle.frame.specs.declared.Frame.{Frame}
-use Rattle.cases.specs.Numbers.{at, is_on}
+use Rattle.cases.specs.Numbers.{at, is_on, Bytes, SignedBytes, Signed32s}
 use Rattle.frame_cases.specs.FrameCase.{switches_at}
 use Rattle.load_cases.specs.Setup.{bytes_at, signed_at, source_at, sources_at, tip_at, setup_at}
 
@@ -49,3 +53,24 @@ pub setup_is : (n : List ℤ) {w h r sb step mode flip : ℕ} {t0 t1 : ℤ} {t :
     }) (setup_at n)
 unfolding setup_at
 setup_is n e1 e2 e3 e4 e5 e6 e7 e8 e9 e10 e11 e12 e13 e14 e15 e16 = cc
+
+-- seven numbers that fit their type
+module _ {E : Type 0} (n : List ℤ) (k : ℕ) where
+  pub i8s_is : (xs : List ℤ) → length xs ≡ 7 → ((i : ℕ) (x : ℤ) → i < 7 → slice_get xs i ≡ Some x → (E × (SFits w8 (at n (k + i)) → ⊥)) ⊎ (SFits w8 (at n (k + i)) × (x ≡ at n (k + i))))
+      → SignedBytes k (k + 7) n → xs ≡ signed_at n k
+  unfolding signed_at
+  i8s_is xs e h b =
+      seven_is (λ i. at n (k + i)) (pos 0) xs e (λ i l. as_i8 (h i (at xs i) l (slice_get-get_or xs i (pos 0) (omega arith))) (b (k + i) (omega arith) (omega arith)))
+
+  pub i32s_is : (xs : List ℤ) → length xs ≡ 7 → ((i : ℕ) (x : ℤ) → i < 7 → slice_get xs i ≡ Some x → (E × (SFits w32 (at n (k + i)) → ⊥)) ⊎ (SFits w32 (at n (k + i)) × (x ≡ at n (k + i))))
+      → Signed32s k (k + 7) n → xs ≡ signed_at n k
+  unfolding signed_at
+  i32s_is xs e h b =
+      seven_is (λ i. at n (k + i)) (pos 0) xs e (λ i l. as_i32 (h i (at xs i) l (slice_get-get_or xs i (pos 0) (omega arith))) (b (k + i) (omega arith) (omega arith)))
+
+  pub u8s_is : (xs : List ℕ) → length xs ≡ 7
+      → ((i x : ℕ) → i < 7 → slice_get xs i ≡ Some x → (E × (FitsUnsignedBits 8 (at n (k + i)) → ⊥)) ⊎ (FitsUnsignedBits 8 (at n (k + i)) × (x ≡ nat_abs (at n (k + i)))))
+      → Bytes k (k + 7) n → xs ≡ bytes_at n k
+  unfolding bytes_at
+  u8s_is xs e h b =
+      seven_is (λ i. nat_abs (at n (k + i))) 0 xs e (λ i l. as_u8 (h i (get_or xs i 0) l (slice_get-get_or xs i 0 (omega arith))) (b (k + i) (omega arith) (omega arith)))

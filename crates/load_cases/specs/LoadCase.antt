@@ -4,12 +4,12 @@ use Rattle.std.specs.Prelude.{◌≡◌, List, ℕ, ◌+◌, ◌<◌, ℤ, pos, 
 use Rattle.frame.specs.declared.Frame.{Frame}
 use Rattle.store.specs.Store.{Store}
 use Rattle.store.specs.Calls.{called}
+use Rattle.load.specs.declared.Asked.{Asked}
+use Rattle.load.specs.Asked.{call_of}
 use Rattle.load.specs.Load.{Call}
 use Rattle.load.specs.Calls.{answer, load}
-use Rattle.checks.specs.Answer.{call_of}
 use Rattle.cases.specs.Numbers.{at, Sizes, is_on}
 use Rattle.frame_cases.specs.FrameCase.{record_of, Stated}
-use Rattle.load_cases.specs.declared.Asked.{Asked}
 
 -- columns and rows, of the numbers from k on, are no negative ones
 abbrev pub TileNumbers : List ℤ → ℕ → Type 0
@@ -28,12 +28,9 @@ asked_at n k =
       row_end = nat_abs (at n (k + 6));
     }
 
--- the call of a setup, of what is asked and of planes; and of the numbers from k on
-abbrev pub call_from : Frame → Asked → List ℤ → Call
-call_from f a planes = call_of f a.whole_frame a.traj a.holes a.col_start a.col_end a.row_start a.row_end planes
-
+-- the call of a setup, of what the numbers from k on ask, and of planes
 abbrev pub call_at : Frame → List ℤ → ℕ → List ℤ → Call
-call_at f n k planes = call_from f (asked_at n k) planes
+call_at f n k planes = call_of f (asked_at n k) planes
 
 -- the elements of a list are the numbers from `from` on; and those of a list of bytes
 abbrev pub Listed : List ℤ → List ℤ → ℕ → Type 0

@@ -1,2 +1,3 @@
 pub mod PassCase
+pub mod Low
 pub mod Code

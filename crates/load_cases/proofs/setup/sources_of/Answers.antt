@@ -1,17 +1,18 @@
 -- `load_cases::setup::sources_of` meets its contract. Assumes nothing.
-use Rattle.std.proofs.Common.{arith, w64, SFits}
+use Rattle.std.proofs.Common.{arith, w64, SFits, rules}
 use borrow.Author.Rules.{sfits_of}
 use Rattle.intops.proofs.Signed.{back}
 use Rattle.cases.specs.Numbers.{at}
+use Rattle.cases.proofs.Elements.{as_u8, as_usize}
 use Rattle.load_cases.proofs.SetupParts.{sources_is}
 use Rattle.load_cases.proofs.setup.sources_of.Goals as goal
 
 pub returns : goal.returns
 returns c =
     let n = c.args.n.now in
-    let f40 : SFits w64 (at n 40) = sfits_of c.to_u8-arg-1.given in
-    let f42 : SFits w64 (at n 42) = sfits_of c.to_usize-arg-1.given in
-    let e40 = simp back at c.to_u8-mfmv_mask.ensures in
-    let e42 = simp back at c.to_usize-n_mfmvs.ensures in
-    λ b. sources_is n (e40 (b.mask 40 (omega arith) (omega arith))) (e42 (b.count 42 (omega arith) (omega arith)))
+    let f40 : SFits w64 (at n 40) = search rules in
+    let f42 : SFits w64 (at n 42) = search rules in
+    let e40 = simp back at c.number-mfmv_mask.ensures in
+    let e42 = simp back at c.number-n_mfmvs.ensures in
+    λ b. sources_is n (as_u8 e40 (b.mask 40 (omega arith) (omega arith))) (as_usize e42 (b.count 42 (omega arith) (omega arith)))
     (c.source_at-a.ensures (b.each 0 (omega arith))) (c.source_at-b.ensures (b.each 1 (omega arith))) (c.source_at-c.ensures (b.each 2 (omega arith))) (c.source_at-d.ensures (b.each 3 (omega arith)))
