@@ -1,77 +1,69 @@
 -- The kinds of cases, and what replay makes of a line. What is read, no definition can say; what is put into a buffer to be written, Report.antt says. Assumes nothing.
-use Rattle.std.specs.Prelude.{◌≡◌, ℕ, zero, suc, ◌+◌, ◌%◌, ◌^◌, List, [], ◌∷◌, take, ℤ, ◌≢◌, slice_index, slice_index_or}
-use Rattle.text.specs.Ascii.{ascii}
-use Rattle.cases.specs.declared.Verdict.{Verdict}
-use Rattle.cases.specs.declared.Verdict.TheVariants.{Agrees, Differs, NotACase}
-use Rattle.lines.specs.declared.State.{State}
-use Rattle.lines.specs.Line.{line, all_read, counted_up}
+use Rattle.std.specs.Prelude.{◌≡◌, ℕ, ◌+◌, ◌%◌, ◌^◌, List, ℤ, Option, Some, None, IsSome, ◌≢◌, codes}
+use Rattle.std.specs.List.{fold}
+use Rattle.lines.specs.declared.Found.TheVariants.{Line, AllRead}
+use Rattle.lines.specs.Line.{Reader, counted_up}
 use Rattle.leaf_cases.specs.Agrees.{ProjectAgrees, ScaleAgrees, QuantizeAgrees, DequantizeAgrees, HintAgrees, SmoothAgrees, GapAgrees}
 use Rattle.frame_cases.specs.FrameCase.{FrameAgrees}
+use Rattle.replay.specs.declared.kinds.Kind.{Kind}
+use Rattle.replay.specs.declared.kinds.Kind.TheVariants.{Project, Scale, Quantize, Dequantize, Hint, Smooth, Gap, Frame}
+use Rattle.replay.specs.declared.End.{End}
+use Rattle.replay.specs.declared.End.TheVariants.{AllRead as Over, NotACase}
 
--- the words of the kinds 1 to 8
-unfoldable pub names : List (List ℕ)
-names =
-    []
-    ∷ ascii "project"
-    ∷ ascii "scale"
-    ∷ ascii "quantize"
-    ∷ ascii "dequantize"
-    ∷ ascii "hint"
-    ∷ ascii "smooth"
-    ∷ ascii "gap"
-    ∷ ascii "frame"
-    ∷ []
+-- the word of a kind
+abbrev pub name : Kind → List ℕ
+name Project = codes "project"
+name Scale = codes "scale"
+name Quantize = codes "quantize"
+name Dequantize = codes "dequantize"
+name Hint = codes "hint"
+name Smooth = codes "smooth"
+name Gap = codes "gap"
+name Frame = codes "frame"
 
--- the word of kind k; what is no kind has none
-unfoldable pub name : ℕ → List ℕ
-name k = slice_index_or names k []
+-- the place of a kind's tally
+abbrev pub number : Kind → ℕ
+number Project = 0
+number Scale = 1
+number Quantize = 2
+number Dequantize = 3
+number Hint = 4
+number Smooth = 5
+number Gap = 6
+number Frame = 7
 
--- what a line of kind k with the numbers n states, is what the definition gives; nothing is promised of a line that does not agree
-pub data Holds (n : List ℤ) : ℕ → Type 0 where
-  project : ProjectAgrees n → Holds n 1
-  scale : ScaleAgrees n → Holds n 2
-  quantize : QuantizeAgrees n → Holds n 3
-  dequantize : DequantizeAgrees n → Holds n 4
-  hint : HintAgrees n → Holds n 5
-  smooth : SmoothAgrees n → Holds n 6
-  gap : GapAgrees n → Holds n 7
-  frame : FrameAgrees n → Holds n 8
+-- what a line of this kind with the numbers n states, is what the definition gives; nothing is promised of a line that does not agree
+abbrev pub Holds : List ℤ → Kind → Type 0
+Holds n Project = ProjectAgrees n
+Holds n Scale = ScaleAgrees n
+Holds n Quantize = QuantizeAgrees n
+Holds n Dequantize = DequantizeAgrees n
+Holds n Hint = HintAgrees n
+Holds n Smooth = SmoothAgrees n
+Holds n Gap = GapAgrees n
+Holds n Frame = FrameAgrees n
 
--- the sum of the tallies of kinds 1 to k, in 64 bits
-unfoldable pub agreed : ℕ → List ℕ → ℕ
-agreed zero t = 0
-agreed (suc k) t = (agreed k t + slice_index t (suc k)) % 2 ^ 64
+-- the sum of the tallies, in 64 bits
+abbrev pub agreed : List ℕ → ℕ
+agreed t = fold (λ sum tally. (sum + tally) % 2 ^ 64) 0 t
 
--- how a line leaves the run: it goes on, the input has ended, a case differs, or what was read is no case
-abbrev pub running : ℕ
-running = 0
-
-abbrev pub ended : ℕ
-ended = 1
-
-abbrev pub differs : ℕ
-differs = 2
-
-abbrev pub not_a_case : ℕ
-not_a_case = 3
-
--- and what a verdict makes of the run
-abbrev pub end_of : Verdict → ℕ
-end_of Agrees = running
-end_of Differs = differs
-end_of NotACase = not_a_case
+-- a case of this kind leaves the run: it goes on if the case holds and is counted; else it ends, not as one that has read all, and nothing is counted
+pub record Judged (k : Kind) (n : List ℤ) (before after : List ℕ) (r : Option End) : Type 0 where
+  pub goes_on : r ≡ None → Holds n k × (after ≡ counted_up (number k) before)
+  pub stops : IsSome r → after ≡ before
+  pub not_over : r ≢ Some Over
 
 -- the run goes on past a line of word w and numbers n: it is of a kind, holds, and is counted
 pub record GoesOn (w : List ℕ) (n : List ℤ) (before after : List ℕ) : Type 0 where
-  pub kind : ℕ
+  pub kind : Kind
   pub named : w ≡ name kind
   pub holds : Holds n kind
-  pub counted : after ≡ counted_up kind before
+  pub counted : after ≡ counted_up (number kind) before
 
--- what is made of what the reader found: r says how the run goes on
-pub record Taken (s : State) (w : List ℕ) (n : List ℤ) (before after : List ℕ) (r : ℕ) : Type 0 where
-  pub goes_on : r ≡ running → GoesOn (take s.letters w) (take s.count n) before after
-  pub stops : (r ≢ running) → after ≡ before
-  pub at_end : r ≡ ended → s.found ≡ all_read
-  pub ends : s.found ≡ all_read → r ≡ ended
-  pub no_line : (s.found ≢ line) → (s.found ≢ all_read) → r ≡ not_a_case
+-- what is made of what the reader found: r says how the run has ended, if it has
+pub record Taken (l : Reader) (before after : List ℕ) (r : Option End) : Type 0 where
+  pub goes_on : r ≡ None → GoesOn l.word l.numbers before after
+  pub stops : IsSome r → after ≡ before
+  pub at_end : r ≡ Some Over → l.state.found ≡ Some AllRead
+  pub ends : l.state.found ≡ Some AllRead → r ≡ Some Over
+  pub no_line : (l.state.found ≢ Some Line) → (l.state.found ≢ Some AllRead) → r ≡ Some NotACase

@@ -1,7 +1,5 @@
 -- What a line makes of the lists of a case, which lie in one list of numbers, one after the other. Assumes nothing.
-use Rattle.std.specs.Prelude.{◌≡◌, ℕ, zero, suc, ◌+◌, ◌≤◌, Bool, true, false, cond, List, [], ◌∷◌, length, drop, ℤ, pos, nat_lt, slice_index, slice_index_or, slice_set, unsigned_abs}
-use Rattle.loops.specs.Over.{span}
-use Rattle.loops.specs.Seven.{storing}
+use Rattle.std.specs.Prelude.{◌≡◌, ℕ, zero, suc, ◌+◌, ◌≤◌, Bool, true, false, cond, List, [], ◌∷◌, length, drop, replicate, ℤ, pos, nat_lt, slice_index, slice_index_or, slice_set, unsigned_abs}
 use Rattle.cases.specs.Numbers.{at, AllInside}
 
 -- where list k begins: the room of each is that of the longest of the kept cases
@@ -9,8 +7,8 @@ abbrev pub start_of : ℕ → ℕ
 start_of k = slice_index_or (0 ∷ 2048 ∷ 4096 ∷ 6144 ∷ 13318 ∷ 20492 ∷ 42002 ∷ 63512 ∷ []) k 95768
 
 -- a `case` line: every element is 0
-unfoldable pub cleared : List ℤ → List ℤ
-cleared to = span (storing (λ i. pos 0)) 0 (length to) to
+abbrev pub cleared : List ℤ → List ℤ
+cleared to = replicate (length to) (pos 0)
 
 -- the place k of n values, or the first where they are used up
 abbrev pub again_at : ℕ → ℕ → ℕ

@@ -1,31 +1,31 @@
 -- What replay_loads writes at the end of a run. Assumes nothing.
-use Rattle.std.specs.Prelude.{ℕ, ◌+◌, ◌%◌, ◌^◌, cond, List, ◌++◌, ◌==◌, slice_index}
-use Rattle.text.specs.Ascii.{ascii}
+use Rattle.std.specs.Prelude.{ℕ, ◌+◌, ◌%◌, ◌^◌, cond, List, length, ◌++◌, ◌==◌, ℤ, Option, Some, None, codes, slice_index}
+use Rattle.std.specs.List.{fold}
 use Rattle.lines.specs.Report.{agreed_text, differs_text, why_text, all_text}
 use Rattle.replay_loads.specs.declared.book.Book.{Book}
-use Rattle.replay_loads.specs.Calls.{running, all_taken, differs, no_room}
+use Rattle.replay_loads.specs.declared.book.End.{End}
+use Rattle.replay_loads.specs.declared.book.End.TheVariants.{AllTaken, Differs, NotALine, NoRoom}
 
--- how many of each kind agreed (`kind_of`)
+-- how many of each kind agreed (`number`)
 unfoldable pub tallies_text : List ℕ → List ℕ
-tallies_text t = agreed_text (ascii "loads") (slice_index t 0) ++ agreed_text (ascii "refused loads") (slice_index t 1) ++ agreed_text (ascii "passes") (slice_index t 2)
+tallies_text t = agreed_text (codes "loads") (slice_index t 0) ++ agreed_text (codes "refused loads") (slice_index t 1) ++ agreed_text (codes "passes") (slice_index t 2)
 
 -- the sum of the three tallies, in 64 bits
-unfoldable pub sum_of : List ℕ → ℕ
-sum_of t = ((slice_index t 0 + slice_index t 1) % 2 ^ 64 + slice_index t 2) % 2 ^ 64
+abbrev pub sum_of : List ℕ → ℕ
+sum_of t = fold (λ sum tally. (sum + tally) % 2 ^ 64) 0 t
 
--- what a call of k numbers is: `pass` of fourteen, else `call`
-unfoldable pub call_text : ℕ → List ℕ
-call_text k = cond (k == 14) (ascii "pass") (ascii "call")
+-- what a call of these numbers is: `pass` of fourteen, else `call`
+unfoldable pub call_text : List ℤ → List ℕ
+call_text n = cond (length n == 14) (codes "pass") (codes "call")
 
 -- the last line: all agree, or the call that differs, or the line of the input at which a list has no room, or the last that was taken, where no turn may follow, or the one that may not stand there
-unfoldable pub end_text : Book → ℕ → ℕ → List ℕ
-end_text b sum line =
-    cond (b.ended == all_taken) (all_text sum)
-    (cond (b.ended == differs) (differs_text b.line (call_text b.call))
-    (cond (b.ended == no_room) (why_text line (ascii "no room for the lists of this case"))
-    (cond (b.ended == running) (why_text line (ascii "too many lines"))
-    (why_text line (ascii "not a line that may stand here")))))
+abbrev pub end_text : Option End → Book → ℕ → ℕ → List ℕ
+end_text (Some AllTaken) b sum line = all_text sum
+end_text (Some Differs) b sum line = differs_text b.line (call_text b.call.items)
+end_text (Some NoRoom) b sum line = why_text line (codes "no room for the lists of this case")
+end_text (Some NotALine) b sum line = why_text line (codes "not a line that may stand here")
+end_text None b sum line = why_text line (codes "too many lines")
 
 -- the whole report
 unfoldable pub report_text : Book → ℕ → List ℕ → List ℕ
-report_text b line t = tallies_text t ++ end_text b (sum_of t) line
+report_text b line t = tallies_text t ++ end_text b.ended b (sum_of t) line

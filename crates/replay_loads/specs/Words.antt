@@ -1,26 +1,22 @@
--- The words of lines. What is read, no definition can say; what is put into a buffer to be written, Report.antt says. Assumes nothing.
-use Rattle.std.specs.Prelude.{◌≡◌, ℕ, ◌<◌, ◌≤◌, List, [], ◌∷◌, ◌≢◌, slice_index_or}
-use Rattle.text.specs.Ascii.{ascii}
+-- The words of lines, and the kinds of cases that are counted. What is read, no definition can say; what is put into a buffer to be written, Report.antt says. Assumes nothing.
+use Rattle.std.specs.Prelude.{ℕ, List, codes}
+use Rattle.replay_loads.specs.declared.words.Word.{Word}
+use Rattle.replay_loads.specs.declared.words.Word.TheVariants.{Case, Setup, Set, Call, Changed, Check, Pass}
+use Rattle.replay_loads.specs.declared.words.Kind.{Kind}
+use Rattle.replay_loads.specs.declared.words.Kind.TheVariants.{Load, RefusedLoad, Pass as OnePass}
 
--- the words 1 to 7
-unfoldable pub names : List (List ℕ)
-names =
-    []
-    ∷ ascii "case"
-    ∷ ascii "setup"
-    ∷ ascii "set"
-    ∷ ascii "call"
-    ∷ ascii "changed"
-    ∷ ascii "check"
-    ∷ ascii "pass"
-    ∷ []
+-- the word that a line starts with
+abbrev pub name : Word → List ℕ
+name Case = codes "case"
+name Setup = codes "setup"
+name Set = codes "set"
+name Call = codes "call"
+name Changed = codes "changed"
+name Check = codes "check"
+name Pass = codes "pass"
 
--- word k; what is no word has none
-unfoldable pub name : ℕ → List ℕ
-name k = slice_index_or names k []
-
--- the number of a word: 0 is that of a word which is none of the seven
-pub record Numbered (w : List ℕ) (r : ℕ) : Type 0 where
-  pub named : 0 < r → w ≡ name r
-  pub few : r ≤ 7
-  pub none : r ≡ 0 → (k : ℕ) → 0 < k → k ≤ 7 → w ≢ name k
+-- the place of a kind's tally
+abbrev pub number : Kind → ℕ
+number Load = 0
+number RefusedLoad = 1
+number OnePass = 2

@@ -1,97 +1,88 @@
-// How a run ends: what it writes, and writing it.
+//! How a run ends: what it writes, and writing it.
 ghost use Rattle.std.specs.Io.KnownBytes.{Appends};
-ghost use Rattle.std.specs.Prelude.{false, ◌≡◌, ◌+◌, ◌≤◌, length, take};
-ghost use Rattle.text.specs.Put.{Put};
+ghost use Rattle.std.specs.Prelude.{◌≡◌, ◌+◌, ◌≤◌, ◌++◌, OnOk};
+ghost use Rattle.arrayvec.specs.ArrayVec.{array_vec_len};
 ghost use Rattle.lines.specs.Report.{differs_text};
+ghost use Rattle.lines.specs.Line.{seen};
 ghost use Rattle.replay_loads.specs.Report.{tallies_text, sum_of, call_text, end_text, report_text};
 ghost use Rattle.replay_loads.specs.Run.{Ended};
 
-use crate::book::Book;
-use crate::{Turn, book};
+use crate::Reader;
+use crate::book::{Book, End};
+use crate::words::{Kind, Tallies};
+use arrayvec::ArrayVec;
 use lines::report;
-use std::io::Write;
-use text::Written;
+use std::io::{Result, Write};
 
-// Each put function writes its lines into out, and answers where they end.
+// Appends a line for each kind of cases.
 #[tactic(auto, unfolding(crate::specs::Report::tallies_text))]
-fn put_tallies(tallies: &[u64], out: &mut [u8]) -> usize
-    requires { 114 ≤ length out.old }
-    ensures { Put out.old 0 114 (tallies_text tallies.now) out.new result }
+fn put_tallies<const N: usize>(tallies: &Tallies, out: &mut ArrayVec<u8, N>)
+    requires room { array_vec_len out.old + 114 ≤ N }
+    ensures text { out.new.items ≡ out.old.items ++ tallies_text tallies.now }
+    ensures len { array_vec_len out.new ≤ array_vec_len out.old + 114 }
 {
-    let loads = report::tally(tallies, crate::LOAD);
-    let refused = report::tally(tallies, crate::REFUSED);
-    let passes = report::tally(tallies, crate::ONE_PASS);
-    let second = report::put_agreed(b"loads", loads, out, 0);
-    let third = report::put_agreed(b"refused loads", refused, out, second);
-    report::put_agreed(b"passes", passes, out, third)
+    report::put_agreed(b"loads", tallies[Kind::Load.index()], out);
+    report::put_agreed(b"refused loads", tallies[Kind::RefusedLoad.index()], out);
+    report::put_agreed(b"passes", tallies[Kind::Pass.index()], out);
 }
 
-#[tactic(auto, unfolding(crate::specs::Report::sum_of))]
-fn sum_of(tallies: &[u64]) -> u64
+// The sum of the tallies, in 64 bits.
+fn sum_of(tallies: &Tallies) -> u64
     ensures { result ≡ sum_of tallies.now }
 {
-    let loads = report::tally(tallies, crate::LOAD);
-    let refused = report::tally(tallies, crate::REFUSED);
-    let passes = report::tally(tallies, crate::ONE_PASS);
-    std::num::wrapping_add_u64(std::num::wrapping_add_u64(loads, refused), passes)
+    tallies
+        .iter()
+        .fold(0, |sum, &tally| sum.wrapping_add(tally))
 }
 
 #[tactic(auto, unfolding(crate::specs::Report::call_text))]
-fn put_differing(b: Book, out: &mut [u8], at: usize) -> usize
-    requires { at + 40 ≤ length out.old }
-    ensures { Put out.old at 40 (differs_text b.line (call_text b.call)) out.new result }
+fn put_differing<const N: usize>(book: &Book, out: &mut ArrayVec<u8, N>)
+    requires room { array_vec_len out.old + 40 ≤ N }
+    ensures { out.new.items ≡ out.old.items ++ differs_text book.now.line (call_text book.now.call.items) }
 {
-    if b.call == 14 {
-        return report::put_differs(b.line, b"pass", out, at);
+    if book.call.len() == 14 {
+        report::put_differs(book.line, b"pass", out);
+    } else {
+        report::put_differs(book.line, b"call", out);
     }
-    report::put_differs(b.line, b"call", out, at)
 }
 
-// The last line of the report.
-#[tactic(auto, unfolding(crate::specs::Report::end_text))]
-fn put_end(b: Book, sum: u64, line: u64, out: &mut [u8], at: usize) -> usize
-    requires { at + 62 ≤ length out.old }
-    ensures { Put out.old at 62 (end_text b sum line) out.new result }
+// Appends the last line of the report.
+fn put_end<const N: usize>(book: &Book, sum: u64, line: u64, out: &mut ArrayVec<u8, N>)
+    requires room { array_vec_len out.old + 62 ≤ N }
+    ensures { out.new.items ≡ out.old.items ++ end_text book.now.ended book.now sum line }
 {
-    if b.ended == book::ALL_READ {
-        return report::put_all_agree(sum, out, at);
+    match book.ended {
+        Some(End::AllTaken) => report::put_all_agree(sum, out),
+        Some(End::Differs) => put_differing(book, out),
+        Some(End::NotALine) => report::put_why(line, b"not a line that may stand here", out),
+        Some(End::NoRoom) => report::put_why(line, b"no room for the lists of this case", out),
+        None => report::put_why(line, b"too many lines", out),
     }
-    if b.ended == book::DIFFERS {
-        return put_differing(b, out, at);
-    }
-    if b.ended == book::NO_ROOM {
-        return report::put_why(line, b"no room for the lists of this case", out, at);
-    }
-    if b.ended == book::RUNNING {
-        return report::put_why(line, b"too many lines", out, at);
-    }
-    report::put_why(line, b"not a line that may stand here", out, at)
 }
 
 #[tactic(auto, unfolding(crate::specs::Report::report_text))]
-fn put_report(b: Book, line: u64, tallies: &[u64], out: &mut [u8]) -> usize
-    requires { 176 ≤ length out.old }
-    ensures { Put out.old 0 176 (report_text b line tallies.now) out.new result }
+fn put_report<const N: usize>(book: &Book, line: u64, tallies: &Tallies, out: &mut ArrayVec<u8, N>)
+    requires room { array_vec_len out.old + 176 ≤ N }
+    ensures { out.new.items ≡ out.old.items ++ report_text book.now line tallies.now }
 {
-    let sum = sum_of(tallies);
-    let last = put_tallies(tallies, out);
-    put_end(b, sum, line, out, last)
+    put_tallies(tallies, out);
+    put_end(book, sum_of(tallies), line, out);
 }
 
-// Writes the report on the end of a run, and on nothing else.
-fn write_end<W: Write>(to: &mut W, last: Turn, tallies: &[u64], out: &mut [u8]) -> Written
-    requires { (176 ≤ length out.old) × Ended last tallies.now }
-    ensures handed { take result.bytes out.new ≡ report_text last.book last.state.line tallies.now }
-    ensures written { result.failed ≡ false → Appends (W.contents to.old) (W.contents to.new) (report_text last.book last.state.line tallies.now) }
+/// Writes the report on the end of a run, and on nothing else.
+pub fn write_end<W: Write>(
+    to: &mut W,
+    book: &Book,
+    last: &Reader,
+    tallies: &Tallies,
+    out: &mut ArrayVec<u8, 176>,
+) -> Result<()>
+    requires ended { Ended book.now (seen last.now) tallies.now }
+    ensures handed { out.new.items ≡ report_text book.now last.now.state.line tallies.now }
+    ensures written { OnOk result (Appends (W.contents to.old) (W.contents to.new) (report_text book.now last.now.state.line tallies.now)) }
 {
-    let s = last.state;
-    let n = put_report(last.book, s.line, tallies, out);
-    text::write_front(to, out, n)
-}
-
-pub fn print_end<W: Write>(to: &mut W, last: Turn, tallies: &[u64])
-    requires { Ended last tallies.now }
-{
-    let mut out = [0u8; 176];
-    write_end(to, last, tallies, &mut out);
+    out.clear();
+    put_report(book, last.state.line, tallies, out);
+    text::write_out(to, out)
 }

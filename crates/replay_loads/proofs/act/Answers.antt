@@ -1,0 +1,8 @@
+use Rattle.std.proofs.Common.{refl}
+use Rattle.replay_loads.proofs.act.Goals as goal
+
+pub returns-in-Case : goal.returns-in-Case
+returns-in-Case c = let e = c.begin_case.ensures in rw c.in-Case.is (e.book, e.cells, e.want, refl)
+
+pub returns-in-Check : goal.returns-in-Check
+returns-in-Check c = rw c.in-Check.is c.check.ensures
