@@ -1,11 +1,9 @@
 -- A field's cells as colours (docs/FRAME_FILE.md, "Picture"). Assumes nothing.
-use Rattle.std.specs.Prelude.{◌≡◌, cond, ◌&&◌, List, [], ◌∷◌, ◌++◌, ℕ, ◌+◌, ◌-◌, ◌*◌, ◌/◌, ◌%◌, ◌<◌, eqb, ltb, ℤ, pos, nat_abs, get_or}
+use Rattle.std.specs.Prelude.{◌≡◌, cond, ◌&&◌, List, [], ◌∷◌, ◌++◌, ℕ, ◌+◌, ◌-◌, ◌*◌, ◌/◌, ◌%◌, ◌<◌, eqb, ltb, ℤ, pos, nat_abs, get_or, codes, decimal}
 use Rattle.std.specs.Int.Signed.{le_z, lt_z}
 use Rattle.intops.specs.Choice.{eq_z}
 use Rattle.levels.specs.Vector.{empty}
-use Rattle.text.specs.Ascii.{ascii}
-use Rattle.text.specs.Decimal.{natural}
-use Rattle.text.specs.Put.{joined}
+use Rattle.text.specs.Joined.{joined}
 use Rattle.show.specs.declared.Colour.{Colour}
 
 -- |y| + |x|
@@ -72,7 +70,7 @@ row_pixels ys xs base py width = joined (pixel_at ys xs base py) width 0
 
 -- the head of a PPM file: `P6`, the size, the greatest number of a channel
 unfoldable pub head_text : ℕ → ℕ → List ℕ
-head_text width height = ascii "P6\n" ++ natural width ++ ascii " " ++ natural height ++ ascii "\n255\n"
+head_text width height = codes "P6\n" ++ decimal width ++ codes " " ++ decimal height ++ codes "\n255\n"
 
 -- ---- what is proved of it besides (proofs/Picture.antt)
 

@@ -1,22 +1,21 @@
 -- A field's cells as text (docs/FRAME_FILE.md, "Text"), as a list of bytes. Assumes nothing.
-use Rattle.std.specs.Prelude.{cond, List, ◌++◌, ℕ, ◌+◌, ℤ, pos, get_or}
+use Rattle.std.specs.Prelude.{cond, List, ◌++◌, ℕ, ◌+◌, ℤ, pos, get_or, codes, decimal}
 use Rattle.intops.specs.Choice.{eq_z}
 use Rattle.levels.specs.Vector.{empty}
-use Rattle.text.specs.Ascii.{ascii}
-use Rattle.text.specs.Decimal.{natural, decimal}
-use Rattle.text.specs.Put.{joined}
+use Rattle.std.specs.Fmt.{signed_decimal}
+use Rattle.text.specs.Joined.{joined}
 
 -- `row column `
 unfoldable pub place_text : ℕ → ℕ → List ℕ
-place_text row col = natural row ++ ascii " " ++ natural col ++ ascii " "
+place_text row col = decimal row ++ codes " " ++ decimal col ++ codes " "
 
 -- `y x reference` and a line feed
 unfoldable pub vector_text : ℤ → ℤ → ℕ → List ℕ
-vector_text y x reference = decimal y ++ ascii " " ++ decimal x ++ ascii " " ++ natural reference ++ ascii "\n"
+vector_text y x reference = signed_decimal y ++ codes " " ++ signed_decimal x ++ codes " " ++ decimal reference ++ codes "\n"
 
 -- `empty` and a line feed
 abbrev pub empty_text : List ℕ
-empty_text = ascii "empty\n"
+empty_text = codes "empty\n"
 
 -- the line of a cell: empty by its y
 unfoldable pub cell_line : ℕ → ℕ → ℤ → ℤ → ℕ → List ℕ

@@ -1,30 +1,23 @@
 -- What the functions work out, as the definitions have it. Assumes nothing.
-use Rattle.std.proofs.Common.{Bool, List, ◌≡◌, refl, ap, ℕ, suc, ◌*◌, ◌/◌, ◌≤◌, arith, ℤ, pos, replicate}
+use Rattle.std.proofs.Common.{Bool, List, Result, Ok, Err, ◌≡◌, refl, ap, ℕ, suc, ◌*◌, ◌/◌, ℤ}
 use Rattle.frame.specs.declared.Frame.{Frame}
 use Rattle.frame.specs.declared.Header.{Header}
-use Rattle.frame.specs.declared.Setup.{Setup}
-use Rattle.frame.specs.Frame.{SaidSetup, number_of, says_setup, setup_of}
+use Rattle.levels.specs.declared.Refusal.{Refusal}
+use Rattle.levels.specs.Answer.{number_of}
+use Rattle.frame.specs.Frame.{SaidSetup, says_setup, setup_of}
 use Rattle.load.specs.Load.{wide_of, high_of, stride_of}
 use Rattle.framefile.specs.File.{byte_at, is_on, header_of, present_of, ends_of, plane_at, put_planes}
 use Rattle.loads.specs.Frame.{frame_calls, until_refused}
 use Rattle.show.specs.Picture.{row_pixels}
-use Rattle.show_field.specs.declared.Wanted.{Wanted}
-use Rattle.show_field.specs.declared.Wanted.TheVariants.{Text, Picture, Usage}
-use Rattle.show_field.specs.Output.{parts_of, picture_part}
-use Rattle.show_field.specs.Shown.{columns_of, setup_number, file_frame, end_of, bad_columns, planes_of, empty_store, loaded_of}
+use Rattle.show_field.specs.Output.{picture_part}
+use Rattle.show_field.specs.Shown.{columns_of, setup_number, file_frame, end_of, bad_columns, no_planes, planes_of, empty_store, loaded_of}
 
 -- a row of pixels is the part behind the head
 pub row_part : (f : Frame) (ys xs : List ℤ) (k py : ℕ) → k ≡ suc py → row_pixels ys xs (py / 8 * stride_of f) py f.width ≡ picture_part f ys xs k
 row_part f ys xs k py e = rw e
 
--- a field has few parts: rows of cells, or a head and rows of pixels
-pub few_parts : (w : Wanted) (f : Frame) → f.height ≤ 2048 → parts_of w f ≤ 2049
-few_parts Text f h = omega (arith, h)
-few_parts Picture f h = omega (arith, h)
-few_parts Usage f h = omega arith
-
 module _ (b : List ℕ) (f : Frame) (fe : f ≡ file_frame b) where
-  pub planes_as : (present : List Bool) (n wide high stride : ℕ) (none : List ℤ) → present ≡ present_of b → n ≡ columns_of b → wide ≡ wide_of f → high ≡ high_of f → stride ≡ stride_of f → none ≡ replicate 2752512 (pos 0)
+  pub planes_as : (present : List Bool) (n wide high stride : ℕ) (none : List ℤ) → present ≡ present_of b → n ≡ columns_of b → wide ≡ wide_of f → high ≡ high_of f → stride ≡ stride_of f → none ≡ no_planes
       → put_planes b present n wide high stride none ≡ planes_of b
   unfolding planes_of
   planes_as present n wide high stride none he ne we ge se ze = rw (he, ne, we, ge, se, ze, fe) refl
@@ -40,10 +33,9 @@ module _ (b : List ℕ) (f : Frame) (fe : f ≡ file_frame b) where
   pub columns_as : (n wide : ℕ) → n ≡ columns_of b → wide ≡ wide_of f → bad_columns b n wide ≡ bad_columns b (columns_of b) (wide_of (file_frame b))
   columns_as n wide ne we = rw (ne, we, fe) refl
 
--- the header's setup
-pub setup_as : (b : List ℕ) (h : Header) (r : Setup) → h ≡ header_of b → says_setup r ≡ setup_of h → (number_of r.said ≡ setup_number b) × (r.frame ≡ file_frame b)
-setup_as b h r he e = let w = rw he at e in (ap (λ (s : SaidSetup). s.refusal) w, ap (λ (s : SaidSetup). s.frame) w)
+-- the header's setup, refused or made
+pub refused_as : (b : List ℕ) (h : Header) (r : Result Frame Refusal) (e : Refusal) → r ≡ Err e → h ≡ header_of b → says_setup r ≡ setup_of h → number_of e ≡ setup_number b
+refused_as b h r e p he q = let w = rw he at (rw p at q) in ap (λ (s : SaidSetup). s.refusal) w
 
--- a list that is still as long as it was
-pub still_long : {m n k : ℕ} → m ≡ n → n ≡ k → k ≤ m
-still_long a b = omega (arith, a, b)
+pub setup_as : (b : List ℕ) (h : Header) (r : Result Frame Refusal) (f : Frame) → r ≡ Ok f → h ≡ header_of b → says_setup r ≡ setup_of h → (0 ≡ setup_number b) × (f ≡ file_frame b)
+setup_as b h r f p he q = let w = rw he at (rw p at q) in (ap (λ (s : SaidSetup). s.refusal) w, ap (λ (s : SaidSetup). s.frame) w)

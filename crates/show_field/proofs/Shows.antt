@@ -1,19 +1,12 @@
--- What comes of a file, by the problem that its tests have found. Assumes nothing.
-use Rattle.std.proofs.Common.{false, cond, List, ◌≡◌, sym, ℕ}
-use Rattle.show_field.specs.declared.Shown.{Shown}
+-- What comes of a file whose field is written. Assumes nothing.
+use Rattle.std.proofs.Common.{Option, None, List, ◌≡◌, refl, ap, ◌∙◌, subst, ℕ, ℤ}
+use Rattle.std.specs.Io.KnownBytes.{Appends}
+use Rattle.frame.specs.declared.Frame.{Frame}
 use Rattle.show_field.specs.declared.Wanted.{Wanted}
-use Rattle.show_field.specs.declared.problems.Problem.{Problem}
-use Rattle.show_field.specs.declared.problems.Problem.TheVariants.{Nothing, NotWritten}
-use Rattle.show_field.specs.declared.write.Sent.{Sent}
-use Rattle.show_field.specs.Output.{parts_of, none_sent}
-use Rattle.show_field.specs.Shown.{file_frame, problem_of, unshown_of, Writes, Shows}
+use Rattle.show_field.specs.Output.{parts_of, output}
+use Rattle.show_field.specs.Shown.{file_frame, loaded_of, problem_of, output_of}
 
-module _ (w : Wanted) (b : List ℕ) where
-  -- it has a problem
-  pub unshown_shows : (p : Problem) (r : Shown) → r ≡ unshown_of p → problem_of b ≡ p → ((n : ℕ) → Writes p n none_sent) → Shows w b r
-  unfolding none_sent
-  unshown_shows p r e q h = rw e (record { told = sym q; written = rw q (h (parts_of w (file_frame b))) })
-
-  -- it has none
-  pub sent_shows : (p : Problem) (s : Sent) → p ≡ cond s.failed NotWritten Nothing → problem_of b ≡ Nothing → (s.failed ≡ false → s.parts ≡ parts_of w (file_frame b)) → Shows w b (record { problem = p; sent = s })
-  sent_shows p s e q h = record { told = rw q e; written = rw q h }
+pub shown : (w : Wanted) (b : List ℕ) (old new : Option (List ℕ)) (f : Frame) (ys xs : List ℤ) (refs : List ℕ) (n : ℕ) → Appends old new (output w f ys xs refs)
+    → n ≡ parts_of w f → f ≡ file_frame b → ys ≡ (loaded_of b).store.field_y → xs ≡ (loaded_of b).store.field_x → refs ≡ (loaded_of b).store.field_ref → problem_of b ≡ None
+    → (problem_of b ≡ None) × (n ≡ parts_of w (file_frame b)) × Appends old new (output_of w b)
+shown w b old new f ys xs refs n a ne fe ye xe re p = let e : output w f ys xs refs ≡ output_of w b = rw (fe, ye, xe, re) refl in (p, ne ∙ ap (parts_of w) fe, subst (Appends old new) e a)

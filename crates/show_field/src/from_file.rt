@@ -1,80 +1,96 @@
-// The field of a file: its planes and tile columns, and the loads from an empty store.
-ghost use Rattle.std.specs.Prelude.{◌≡◌, ◌≤◌, pos, length, replicate};
-ghost use Rattle.checks.specs.Answer.{number_of};
-ghost use Rattle.show_field.specs.Shown.{columns_of, file_frame, end_of, empty_store, loaded_of};
+//! The field of a file: its planes and tile columns, and the loads from an empty store.
+ghost use Rattle.std.specs.Prelude.{MatchResult, Some, None, ◌≡◌, ◌≤◌, length};
+ghost use Rattle.levels.specs.Answer.{refusal_of};
+ghost use Rattle.field.specs.Lent.{IsSameField};
 ghost use Rattle.loads.specs.Frame.{frame_calls, until_refused};
+ghost use Rattle.show_field.specs.Shown.{columns_of, no_planes, empty_store, loaded_of, problem_of, HasField, Complete};
 
-use checks::LoadAnswer;
+use crate::problems::Problem;
+use field::Field;
 use frame::Frame;
+use levels::Refusal;
+use store::Pairs;
 
-fn as_usize(b: u8) -> usize
-    ensures { (result ≡ b) × (result ≤ 255) }
-{
-    b as usize
-}
-
-// N, the number of tile columns.
+/// N, the number of tile columns.
 pub fn columns_of(file: &[u8]) -> usize
     requires { 103 ≤ length file.now }
     ensures { (result ≡ columns_of file.now) × (result ≤ 255) }
 {
-    as_usize(file[102])
+    usize::from(file[102])
 }
 
 // Seven planes of 256 x 256 blocks. A function of its own: proofs take them from its contract, and need not work out an array of that size.
 fn no_planes() -> [i8; 2752512]
-    ensures { (result ≡ replicate 2752512 (pos 0)) × (2752512 ≡ length result) }
+    ensures { (result ≡ no_planes) × (2752512 ≡ length result) }
 {
     [0; 2752512]
 }
 
+// The lists of an empty field of 256 x 256 cells, in functions of their own for the same reason.
+pub fn no_ys() -> [i32; 65536]
+    ensures { (result ≡ empty_store.field_y) × (65536 ≡ length result) }
+{
+    [levels::INVALID_MV; 65536]
+}
+
+pub fn no_xs() -> [i32; 65536]
+    ensures { (result ≡ empty_store.field_x) × (65536 ≡ length result) }
+{
+    [0; 65536]
+}
+
+pub fn no_references() -> [u8; 65536]
+    ensures { (result ≡ empty_store.field_ref) × (65536 ≡ length result) }
+{
+    [0; 65536]
+}
+
 // The loads of all tiles, from an empty store.
 fn load_tiles(
-    f: Frame,
+    field: &mut Field<'_>,
+    planes: &[i8],
+    setup: &Frame,
     traj: bool,
     holes: bool,
-    planes: &[i8],
     ends: &[usize],
-    field_y: &mut [i32],
-    field_x: &mut [i32],
-    field_ref: &mut [u8],
-) -> LoadAnswer
-    requires { (f.height ≤ 65536) × (field_y.old ≡ empty_store.field_y) × (field_x.old ≡ empty_store.field_x) × (field_ref.old ≡ empty_store.field_ref) }
-    ensures { let a = until_refused (frame_calls f traj holes planes.now ends.now) empty_store in
-        (number_of result ≡ a.number) × (field_y.new ≡ a.store.field_y) × (field_x.new ≡ a.store.field_x) × (field_ref.new ≡ a.store.field_ref) }
+) -> Result<(), Refusal>
+    requires height { setup.now.height ≤ 65536 }
+    requires empty { HasField field.old empty_store }
+    ensures same_field { IsSameField field.new field.old }
+    ensures refusal { refusal_of result ≡ (until_refused (frame_calls setup.now traj holes planes.now ends.now) empty_store).number }
+    ensures loaded { HasField field.new (until_refused (frame_calls setup.now traj holes planes.now ends.now) empty_store).store }
 {
     let mut traj_y = [levels::INVALID_MV; 57344];
     let mut traj_x = [0i32; 57344];
     let mut map_y = [-128i8; 172032];
     let mut map_x = [-128i8; 172032];
+    let mut trajectories = Pairs {
+        y: &mut traj_y,
+        x: &mut traj_x,
+    };
+    let mut maps = Pairs {
+        y: &mut map_y,
+        x: &mut map_x,
+    };
     loads::load_frame(
-        field_y,
-        field_x,
-        field_ref,
-        &mut traj_y,
-        &mut traj_x,
-        &mut map_y,
-        &mut map_x,
+        field,
+        &mut trajectories,
+        &mut maps,
         planes,
-        f,
+        setup,
         traj,
         holes,
         ends,
     )
 }
 
-// The field of a file that is long enough.
-pub fn load_field(
-    file: &[u8],
-    f: Frame,
-    field_y: &mut [i32],
-    field_x: &mut [i32],
-    field_ref: &mut [u8],
-) -> LoadAnswer
-    requires f_value { (f ≡ file_frame file.now) × (f.width ≤ 2048) × (f.height ≤ 2048) × (end_of file.now ≤ length file.now) }
-    requires field_y_value { (field_y.old ≡ empty_store.field_y) × (field_x.old ≡ empty_store.field_x) × (field_ref.old ≡ empty_store.field_ref) }
-    ensures { let a = loaded_of file.now in
-        (number_of result ≡ a.number) × (field_y.new ≡ a.store.field_y) × (field_x.new ≡ a.store.field_x) × (field_ref.new ≡ a.store.field_ref) }
+/// Loads the field of a file that is complete.
+pub fn load_field(file: &[u8], setup: &Frame, field: &mut Field<'_>) -> Result<(), Problem>
+    requires complete { Complete file.now setup.now }
+    requires empty { HasField field.old empty_store }
+    ensures same_field { IsSameField field.new field.old }
+    ensures told { MatchResult result (λ _. problem_of file.now ≡ None) (λ p. problem_of file.now ≡ Some p) }
+    ensures loaded { HasField field.new (loaded_of file.now).store }
 {
     let n = columns_of(file);
     let mut ends = [0usize; 255];
@@ -85,21 +101,15 @@ pub fn load_field(
         file,
         present,
         n,
-        checks::wide_of(f),
-        checks::high_of(f),
-        checks::stride_of(f),
+        checks::wide_of(setup),
+        checks::high_of(setup),
+        checks::stride_of(setup),
         &mut planes,
     );
     let traj = framefile::is_on(file[100]);
     let holes = framefile::is_on(file[101]);
-    load_tiles(
-        f,
-        traj,
-        holes,
-        &planes,
-        &ends[..n],
-        field_y,
-        field_x,
-        field_ref,
-    )
+    match load_tiles(field, &planes, setup, traj, holes, &ends[..n]) {
+        Ok(()) => Ok(()),
+        Err(refusal) => Err(Problem::Load(refusal)),
+    }
 }

@@ -1,65 +1,61 @@
-// Reads a frame file from standard input, loads the frame's motion field, and writes it to standard
-// output: as text, or with the argument `picture` as a picture. docs/FRAME_FILE.md has the file, the
-// text, the picture, and the lines for files that cannot be shown.
+//! Reads a frame file from standard input, loads the frame's motion field, and writes it to standard
+//! output: as text, or with the argument `picture` as a picture. docs/FRAME_FILE.md has the file, the
+//! text, the picture, and the lines for files that cannot be shown.
 #![tactic(auto)]
 
 mod from_file;
 mod problems;
+mod view;
 mod write;
 
-ghost use Rattle.std.specs.Prelude.{◌≡◌, ◌+◌, ◌*◌, ◌≤◌, ◌<◌, length};
+ghost use Rattle.std.specs.Prelude.{MatchResult, Some, ◌≡◌, ◌+◌, ◌*◌, ◌≤◌, ◌<◌, length};
 ghost use Rattle.show_field.specs.Asked.{asked};
-ghost use Rattle.show_field.specs.Shown.{file_frame, end_of, bad_columns, load_problem, rest_problem, problem_of, unshown_of, Shows};
+ghost use Rattle.show_field.specs.Shown.{bad_columns, rest_problem, problem_of, Accepted, Complete, Shows};
 
+use field::Field;
 use frame::Frame;
 use problems::Problem;
+use show::Cells;
 use std::env::{Env, FillError};
 use std::io::{Read, Write};
-use write::Sent;
 
-#[derive(Clone, Copy)]
+/// What is made of a field.
+#[derive(Clone, Copy, Debug, PartialEq, Eq)]
 pub enum Wanted {
     Text,
     Picture,
-    Usage,
 }
 
 // count: how many arguments there are, with the program's own name; arg: the first after the name.
 #[tactic(auto, unfolding(crate::specs::Asked::asked))]
-fn wanted_of(count: usize, arg: &[u8]) -> Wanted
+fn wanted_of(count: usize, arg: &[u8]) -> Result<Wanted, Problem>
     ensures { result ≡ asked count arg.now }
 {
     if count < 2 {
-        return Wanted::Text;
+        return Ok(Wanted::Text);
     }
     if 2 < count {
-        return Wanted::Usage;
+        return Err(Problem::Usage);
     }
     if check::same(arg, b"text") {
-        return Wanted::Text;
+        return Ok(Wanted::Text);
     }
     if check::same(arg, b"picture") {
-        return Wanted::Picture;
+        return Ok(Wanted::Picture);
     }
-    Wanted::Usage
+    Err(Problem::Usage)
 }
 
 // Puts the first argument at the front of arg, and answers its length: 0 for one that is missing, or longer than arg.
 fn first_arg(rt: &impl Env, arg: &mut [u8]) -> usize
     ensures { result ≤ length arg.new }
 {
-    match rt.arg(1, arg) {
-        Ok(n) => n,
-        Err(_) => 0,
-    }
+    rt.arg(1, arg).unwrap_or(0)
 }
 
 fn has_arg(rt: &impl Env, i: usize) -> bool {
     let mut start = [0u8; 1];
-    match rt.arg(i, &mut start) {
-        Err(FillError::NotPresent) => false,
-        _ => true,
-    }
+    !matches!(rt.arg(i, &mut start), Err(FillError::NotPresent))
 }
 
 // How many arguments there are, with the program's own name: 3 stands for more, too.
@@ -74,52 +70,10 @@ fn arg_count(rt: &impl Env) -> usize {
 }
 
 // For an argument that is missing, or longer than 16 bytes, first_arg answers length 0: neither word.
-fn asked(rt: &impl Env) -> Wanted {
+fn asked(rt: &impl Env) -> Result<Wanted, Problem> {
     let mut arg = [0u8; 16];
     let n = first_arg(rt, &mut arg);
     wanted_of(arg_count(rt), &arg[..n])
-}
-
-// What came of a file: its problem, and the receipt of what was written.
-#[derive(Clone, Copy)]
-pub struct Shown {
-    pub problem: Problem,
-    pub sent: Sent,
-}
-
-// Nothing is written where there is a problem.
-fn unshown(problem: Problem) -> Shown
-    ensures { result ≡ unshown_of problem }
-{
-    Shown {
-        problem,
-        sent: write::none_sent(),
-    }
-}
-
-// Loads the field and writes it. The buffers hold frames up to 2048 x 2048 pixels.
-fn show_loaded<W: Write>(to: &mut W, file: &[u8], f: Frame, w: Wanted) -> Shown
-    requires { (problem_of file.now ≡ load_problem file.now) × (f ≡ file_frame file.now) × (f.width ≤ 2048) × (f.height ≤ 2048) × (end_of file.now ≤ length file.now) }
-    ensures { Shows w file.now result }
-{
-    let mut field_y = [levels::INVALID_MV; 65536];
-    let mut field_x = [0i32; 65536];
-    let mut field_ref = [0u8; 65536];
-    let said = from_file::load_field(file, f, &mut field_y, &mut field_x, &mut field_ref);
-    if checks::number(said) != 0 {
-        return unshown(Problem::Load(said));
-    }
-    let sent = write::write_field(to, w, f, &field_y, &field_x, &field_ref);
-    if sent.failed {
-        return Shown {
-            problem: Problem::NotWritten,
-            sent,
-        };
-    }
-    Shown {
-        problem: Problem::Nothing,
-        sent,
-    }
 }
 
 // Are there no tile columns, or does the last not end at the frame's width?
@@ -127,55 +81,90 @@ fn bad_columns(file: &[u8], n: usize, wide: usize) -> bool
     requires { (n ≤ 255) × (103 + 4 * n ≤ length file.now) }
     ensures { result ≡ bad_columns file.now n wide }
 {
-    if n == 0 {
-        return true;
-    }
-    framefile::end_at(file, n - 1) != wide
+    n == 0 || framefile::end_at(file, n - 1) != wide
 }
 
-// The setup is accepted: tests of length and tile columns, then the loads.
-fn show_rest<W: Write>(to: &mut W, file: &[u8], f: Frame, w: Wanted) -> Shown
-    requires { (problem_of file.now ≡ rest_problem file.now) × (f ≡ file_frame file.now) × (f.width ≤ 2048) × (f.height ≤ 2048) × (103 ≤ length file.now) }
-    ensures { Shows w file.now result }
-{
-    let n = from_file::columns_of(file);
-    let wide = checks::wide_of(f);
-    let present = framefile::present_of(file);
-    let end = framefile::plane_at(present, n, wide, checks::high_of(f), 7);
-    if file.len() < end {
-        return unshown(Problem::TooShort);
-    }
-    if bad_columns(file, n, wide) {
-        return unshown(Problem::TileColumns);
-    }
-    if end < file.len() {
-        return unshown(Problem::TooLong);
-    }
-    show_loaded(to, file, f, w)
-}
-
-fn show<W: Write>(to: &mut W, file: &[u8], w: Wanted) -> Shown
-    ensures { Shows w file.now result }
+// The setup of a file: tests of the head, of the header and of the frame's size.
+fn setup_of(file: &[u8]) -> Result<Frame, Problem>
+    ensures { MatchResult result (λ setup. Accepted file.now setup) (λ p. problem_of file.now ≡ Some p) }
 {
     if file.len() < 103 {
-        return unshown(Problem::TooShort);
+        return Err(Problem::TooShort);
     }
     if !framefile::is_frame_file(file) {
-        return unshown(Problem::NotAFrameFile);
+        return Err(Problem::NotAFrameFile);
     }
-    let setup = frame::init_frame(framefile::header_of(file));
-    let said = setup.said;
-    if frame::number(said) != 0 {
-        return unshown(Problem::Setup(said));
+    let setup = match frame::init_frame(&framefile::header_of(file)) {
+        Ok(setup) => setup,
+        Err(refusal) => return Err(Problem::Setup(refusal)),
+    };
+    if 2048 < setup.width {
+        return Err(Problem::TooLarge);
     }
-    let f = setup.frame;
-    if 2048 < f.width {
-        return unshown(Problem::TooLarge);
+    if 2048 < setup.height {
+        return Err(Problem::TooLarge);
     }
-    if 2048 < f.height {
-        return unshown(Problem::TooLarge);
+    Ok(setup)
+}
+
+// The setup is accepted: tests of length and tile columns.
+fn check_rest(file: &[u8], setup: &Frame) -> Result<(), Problem>
+    requires accepted { Accepted file.now setup.now }
+    ensures { MatchResult result (λ _. Complete file.now setup.now) (λ p. problem_of file.now ≡ Some p) }
+{
+    let n = from_file::columns_of(file);
+    let wide = checks::wide_of(setup);
+    let present = framefile::present_of(file);
+    let end = framefile::plane_at(present, n, wide, checks::high_of(setup), 7);
+    if file.len() < end {
+        return Err(Problem::TooShort);
     }
-    show_rest(to, file, f, w)
+    if bad_columns(file, n, wide) {
+        return Err(Problem::TileColumns);
+    }
+    if end < file.len() {
+        return Err(Problem::TooLong);
+    }
+    Ok(())
+}
+
+// Loads the field and writes it; answers how many parts that were. The lists hold frames up to 2048 x 2048 pixels.
+fn show_loaded<W: Write>(
+    to: &mut W,
+    file: &[u8],
+    setup: &Frame,
+    wanted: Wanted,
+) -> Result<u32, Problem>
+    requires complete { Complete file.now setup.now }
+    ensures { Shows W.contents wanted file.now to.old to.new result }
+{
+    let mut ys = from_file::no_ys();
+    let mut xs = from_file::no_xs();
+    let mut references = from_file::no_references();
+    let mut field = Field {
+        y: &mut ys,
+        x: &mut xs,
+        reference: &mut references,
+    };
+    from_file::load_field(file, setup, &mut field)?;
+    let cells = Cells {
+        y: &ys,
+        x: &xs,
+        reference: &references,
+    };
+    match write::write_field(to, wanted, setup, cells) {
+        Ok(parts) => Ok(parts),
+        Err(_) => Err(Problem::NotWritten),
+    }
+}
+
+// Nothing is written where there is a problem.
+fn show<W: Write>(to: &mut W, file: &[u8], wanted: Wanted) -> Result<u32, Problem>
+    ensures { Shows W.contents wanted file.now to.old to.new result }
+{
+    let setup = setup_of(file)?;
+    check_rest(file, &setup)?;
+    show_loaded(to, file, &setup, wanted)
 }
 
 // A function of its own: proofs take the length from its contract, and need not work out an array of that size.
@@ -186,25 +175,31 @@ fn no_file() -> [u8; 2753636]
 }
 
 // The longest file that is not too long has 255 tile columns and seven planes of 256 x 256 blocks; by one byte more a longer one is seen.
-fn show_input<R: Read, W: Write>(from: &mut R, to: &mut W, w: Wanted, file: &mut [u8]) -> Problem
+fn show_input<R: Read, W: Write>(
+    from: &mut R,
+    to: &mut W,
+    wanted: Wanted,
+    file: &mut [u8],
+) -> Result<u32, Problem>
     requires { 103 + 4 * 255 + 7 * (6 * (256 * 256)) < length file.old }
 {
     let n = text::read_full(from, file).bytes;
-    let shown = show(to, &file[..n], w);
-    shown.problem
+    show(to, &file[..n], wanted)
 }
 
-fn run<R: Read, W: Write>(from: &mut R, to: &mut W, w: Wanted) -> Problem {
+fn run<R: Read, W: Write>(from: &mut R, to: &mut W, wanted: Wanted) -> Result<u32, Problem> {
     let mut file = no_file();
-    show_input(from, to, w, &mut file)
+    show_input(from, to, wanted, &mut file)
+}
+
+// Shows what the arguments ask for.
+fn show_asked(rt: &HostRuntime) -> Result<u32, Problem> {
+    let wanted = asked(rt)?;
+    run(&mut rt.stdin(), &mut rt.stdout(), wanted)
 }
 
 fn main(rt: HostRuntime) {
-    match asked(&rt) {
-        Wanted::Usage => problems::tell(&mut rt.stderr(), Problem::Usage),
-        w => {
-            let problem = run(&mut rt.stdin(), &mut rt.stdout(), w);
-            problems::tell(&mut rt.stderr(), problem);
-        }
+    if let Err(problem) = show_asked(&rt) {
+        problems::tell(&mut rt.stderr(), problem);
     }
 }

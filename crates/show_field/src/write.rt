@@ -1,172 +1,135 @@
-// Writes a field to a writer: of a text a row of cells at a time, of a picture its head and then a row of pixels
-// at a time. It stops at the first write that fails.
-ghost use Rattle.std.specs.Prelude.{false, ◌≡◌, ◌+◌, ◌*◌, ◌/◌, ◌≤◌, ◌<◌, length, take};
+//! Writes a field to a writer: of a text a row of cells at a time, of a picture its head and then a row of pixels
+//! at a time. It stops at the first write that fails.
+ghost use Rattle.std.specs.Prelude.{IfOk, OnOk, ◌≡◌, ◌+◌, ◌*◌, ◌/◌, ◌≤◌, ◌<◌, ◌++◌, [], length};
 ghost use Rattle.std.specs.Io.KnownBytes.{Appends};
+ghost use Rattle.arrayvec.specs.ArrayVec.{array_vec_len};
 ghost use Rattle.load.specs.Load.{wide_of, high_of, stride_of};
-ghost use Rattle.text.specs.Put.{Put, joined};
 ghost use Rattle.show.specs.Text.{row_text};
 ghost use Rattle.show.specs.Picture.{row_pixels};
-ghost use Rattle.show_field.specs.Output.{parts_of, picture_part, part_of, none_sent};
+ghost use Rattle.show_field.specs.Output.{parts_of, picture_part, part_of, output};
 ghost use Rattle.show_field.specs.Shown.{FieldOfFile};
 
 use crate::Wanted;
+use crate::view::View;
+use arrayvec::ArrayVec;
 use frame::Frame;
+use show::Cells;
+use std::io;
 use std::io::Write;
 
-fn parts_of(w: Wanted, f: Frame) -> usize
-    requires { f.height ≤ 2048 }
-    ensures { result ≡ parts_of w f }
-{
-    match w {
-        Wanted::Text => checks::high_of(f),
-        Wanted::Picture => f.height as usize + 1,
-        Wanted::Usage => 0,
-    }
-}
-
-// Each put function writes a part's bytes to the front of out, and answers where they end.
-fn put_row_text(
-    f: Frame,
-    row: usize,
-    field_y: &[i32],
-    field_x: &[i32],
-    field_ref: &[u8],
-    out: &mut [u8],
-) -> usize
-    requires { (f.width ≤ 2048) × (f.height ≤ 2048) × (row < high_of f) × (65536 ≤ length field_y.now) × (65536 ≤ length field_x.now) × (65536 ≤ length field_ref.now) × (14592 ≤ length out.old) }
-    ensures { Put out.old 0 14592 (row_text field_y.now field_x.now field_ref.now (row * stride_of f) row (wide_of f)) out.new result }
-{
-    let base = row * checks::stride_of(f);
-    let wide = checks::wide_of(f);
-    show::put_row_text(
-        field_y,
-        field_x,
-        field_ref,
-        base,
-        row as u32,
-        wide as u32,
-        out,
-    )
-}
-
-fn put_row_pixels(f: Frame, py: usize, field_y: &[i32], field_x: &[i32], out: &mut [u8]) -> usize
-    requires { (f.width ≤ 2048) × (f.height ≤ 2048) × (py < f.height) × (65536 ≤ length field_y.now) × (65536 ≤ length field_x.now) × (14592 ≤ length out.old) }
-    ensures { Put out.old 0 14592 (row_pixels field_y.now field_x.now (py / 8 * stride_of f) py f.width) out.new result }
-{
-    let base = py / 8 * checks::stride_of(f);
-    show::put_row_pixels(field_y, field_x, base, py as u32, f.width, out)
-}
-
-fn put_picture_part(f: Frame, k: usize, field_y: &[i32], field_x: &[i32], out: &mut [u8]) -> usize
-    requires { (f.width ≤ 2048) × (f.height ≤ 2048) × (k ≤ f.height) × (65536 ≤ length field_y.now) × (65536 ≤ length field_x.now) × (14592 ≤ length out.old) }
-    ensures { Put out.old 0 14592 (picture_part f field_y.now field_x.now k) out.new result }
-{
-    if k == 0 {
-        return show::put_head(f.width, f.height, out, 0);
-    }
-    put_row_pixels(f, k - 1, field_y, field_x, out)
-}
-
-fn put_part(
-    w: Wanted,
-    f: Frame,
-    k: usize,
-    field_y: &[i32],
-    field_x: &[i32],
-    field_ref: &[u8],
-    out: &mut [u8],
-) -> usize
-    requires { (f.width ≤ 2048) × (f.height ≤ 2048) × (k < parts_of w f) × (65536 ≤ length field_y.now) × (65536 ≤ length field_x.now) × (65536 ≤ length field_ref.now) × (14592 ≤ length out.old) }
-    ensures { Put out.old 0 14592 (part_of w f field_y.now field_x.now field_ref.now k) out.new result }
-{
-    match w {
-        Wanted::Text => put_row_text(f, k, field_y, field_x, field_ref, out),
-        Wanted::Picture => put_picture_part(f, k, field_y, field_x, out),
-        Wanted::Usage => 0,
-    }
-}
-
-// The receipt of what was written: how many parts were handed over, the length of the last, and whether a write failed.
-#[derive(Clone, Copy)]
-pub struct Sent {
-    pub parts: usize,
-    pub bytes: usize,
-    pub failed: bool,
-}
-
-#[tactic(auto, unfolding(crate::specs::Output::none_sent))]
-pub fn none_sent() -> Sent
-    ensures { result ≡ none_sent }
-{
-    Sent {
-        parts: 0,
-        bytes: 0,
-        failed: false,
-    }
-}
-
-// Writes the part that comes next.
-fn write_part<W: Write>(
-    to: &mut W,
-    w: Wanted,
-    f: Frame,
-    sent: Sent,
-    field_y: &[i32],
-    field_x: &[i32],
-    field_ref: &[u8],
-    out: &mut [u8],
-) -> Sent
-    requires { FieldOfFile f field_y.now field_x.now field_ref.now × (f.width ≤ 2048) × (f.height ≤ 2048) × (sent.parts < parts_of w f) × (65536 ≤ length field_y.now) × (65536 ≤ length field_x.now) × (65536 ≤ length field_ref.now) × (14592 ≤ length out.old) × (sent.failed ≡ false) }
-    ensures handed { (result.parts ≡ sent.parts + 1) × (take result.bytes out.new ≡ part_of w f field_y.now field_x.now field_ref.now sent.parts) }
-    ensures written { result.failed ≡ false → Appends (W.contents to.old) (W.contents to.new) (part_of w f field_y.now field_x.now field_ref.now sent.parts) }
-{
-    let k = sent.parts;
-    let end = put_part(w, f, k, field_y, field_x, field_ref, out);
-    let written = text::write_front(to, out, end);
-    Sent {
-        parts: k + 1,
-        bytes: written.bytes,
-        failed: written.failed,
-    }
-}
-
-fn write_parts<W: Write>(
-    to: &mut W,
-    w: Wanted,
-    f: Frame,
-    field_y: &[i32],
-    field_x: &[i32],
-    field_ref: &[u8],
-    out: &mut [u8],
-) -> Sent
-    requires { FieldOfFile f field_y.now field_x.now field_ref.now × (f.width ≤ 2048) × (f.height ≤ 2048) × (65536 ≤ length field_y.now) × (65536 ≤ length field_x.now) × (65536 ≤ length field_ref.now) × (14592 ≤ length out.old) }
-    ensures all { result.failed ≡ false → result.parts ≡ parts_of w f }
-    ensures written { result.failed ≡ false → Appends (W.contents to.old) (W.contents to.new) (joined (part_of w f field_y.now field_x.now field_ref.now) (parts_of w f) 0) }
-{
-    let parts = parts_of(w, f);
-    let mut sent = none_sent();
-    while sent.parts < parts {
-        sent = write_part(to, w, f, sent, field_y, field_x, field_ref, out);
-        if sent.failed {
-            return sent;
+impl<'f, 'c> View<'f, 'c> {
+    // How many parts there are.
+    fn parts(&self) -> u32
+        ensures { result ≡ parts_of self.now.wanted self.now.setup.now }
+    {
+        match self.wanted {
+            Wanted::Text => checks::high_of(self.setup) as u32,
+            Wanted::Picture => self.setup.height + 1,
         }
     }
-    sent
+
+    // The lines of a row of cells.
+    fn put_row_text<const N: usize>(&self, row: u32, out: &mut ArrayVec<u8, N>)
+        requires row { row < high_of self.now.setup.now }
+        requires room { array_vec_len out.old + 14592 ≤ N }
+        ensures text { out.new.items ≡ out.old.items ++ row_text self.now.cells.y.now self.now.cells.x.now self.now.cells.reference.now (row * stride_of self.now.setup.now) row (wide_of self.now.setup.now) }
+        ensures len { array_vec_len out.new ≤ array_vec_len out.old + 14592 }
+    {
+        let base = row as usize * checks::stride_of(self.setup);
+        let wide = checks::wide_of(self.setup) as u32;
+        show::put_row_text(&self.cells, base, row, wide, out);
+    }
+
+    // A row of pixels; a cell is 8 pixels high.
+    fn put_row_pixels<const N: usize>(&self, py: u32, out: &mut ArrayVec<u8, N>)
+        requires row { py < self.now.setup.now.height }
+        requires room { array_vec_len out.old + 14592 ≤ N }
+        ensures text { out.new.items ≡ out.old.items ++ row_pixels self.now.cells.y.now self.now.cells.x.now (py / 8 * stride_of self.now.setup.now) py self.now.setup.now.width }
+        ensures len { array_vec_len out.new ≤ array_vec_len out.old + 14592 }
+    {
+        let base = (py / 8) as usize * checks::stride_of(self.setup);
+        show::put_row_pixels(&self.cells, base, py, self.setup.width, out);
+    }
+
+    fn put_picture_part<const N: usize>(&self, k: u32, out: &mut ArrayVec<u8, N>)
+        requires part { k ≤ self.now.setup.now.height }
+        requires room { array_vec_len out.old + 14592 ≤ N }
+        ensures text { out.new.items ≡ out.old.items ++ picture_part self.now.setup.now self.now.cells.y.now self.now.cells.x.now k }
+        ensures len { array_vec_len out.new ≤ array_vec_len out.old + 14592 }
+    {
+        if k == 0 {
+            show::put_head(self.setup.width, self.setup.height, out)
+        } else {
+            self.put_row_pixels(k - 1, out)
+        }
+    }
+
+    fn put_part<const N: usize>(&self, k: u32, out: &mut ArrayVec<u8, N>)
+        requires part { k < parts_of self.now.wanted self.now.setup.now }
+        requires room { array_vec_len out.old + 14592 ≤ N }
+        ensures text { out.new.items ≡ out.old.items ++ part_of self.now.wanted self.now.setup.now self.now.cells.y.now self.now.cells.x.now self.now.cells.reference.now k }
+        ensures len { array_vec_len out.new ≤ array_vec_len out.old + 14592 }
+    {
+        match self.wanted {
+            Wanted::Text => self.put_row_text(k, out),
+            Wanted::Picture => self.put_picture_part(k, out),
+        }
+    }
+
+    // Part k is handed over, whether or not the write fails.
+    fn write_part<W: Write, const N: usize>(
+        &self,
+        to: &mut W,
+        k: u32,
+        out: &mut ArrayVec<u8, N>,
+    ) -> io::Result<()>
+        requires of_file { FieldOfFile self.now.setup.now self.now.cells.y.now self.now.cells.x.now self.now.cells.reference.now }
+        requires part { k < parts_of self.now.wanted self.now.setup.now }
+        requires room { 14592 ≤ N }
+        ensures handed { out.new.items ≡ part_of self.now.wanted self.now.setup.now self.now.cells.y.now self.now.cells.x.now self.now.cells.reference.now k }
+        ensures written { OnOk result (Appends (W.contents to.old) (W.contents to.new) (part_of self.now.wanted self.now.setup.now self.now.cells.y.now self.now.cells.x.now self.now.cells.reference.now k)) }
+    {
+        out.clear();
+        self.put_part(k, out);
+        text::write_out(to, out)
+    }
+
+    // Writes all parts, and answers how many they are.
+    fn write<W: Write>(&self, to: &mut W) -> io::Result<u32>
+        requires of_file { FieldOfFile self.now.setup.now self.now.cells.y.now self.now.cells.x.now self.now.cells.reference.now }
+        ensures all { IfOk result (λ parts. parts ≡ parts_of self.now.wanted self.now.setup.now) }
+        ensures written { OnOk result (Appends (W.contents to.old) (W.contents to.new) (output self.now.wanted self.now.setup.now self.now.cells.y.now self.now.cells.x.now self.now.cells.reference.now)) }
+    {
+        // 256 lines of at most 57 bytes; a row of 2,048 pixels has 6,144.
+        let mut out = ArrayVec::<u8, 14592>::new();
+        let parts = self.parts();
+        for k in 0..parts {
+            self.write_part(to, k, &mut out)?;
+        }
+        Ok(parts)
+    }
 }
 
-// 256 lines of at most 57 bytes; a row of 2048 pixels has 6144.
+/// Writes the field of a frame of at most 2,048 x 2,048 pixels, and answers how many parts that were.
 pub fn write_field<W: Write>(
     to: &mut W,
-    w: Wanted,
-    f: Frame,
-    field_y: &[i32],
-    field_x: &[i32],
-    field_ref: &[u8],
-) -> Sent
-    requires { FieldOfFile f field_y.now field_x.now field_ref.now × (f.width ≤ 2048) × (f.height ≤ 2048) × (65536 ≤ length field_y.now) × (65536 ≤ length field_x.now) × (65536 ≤ length field_ref.now) }
-    ensures all { result.failed ≡ false → result.parts ≡ parts_of w f }
-    ensures written { result.failed ≡ false → Appends (W.contents to.old) (W.contents to.new) (joined (part_of w f field_y.now field_x.now field_ref.now) (parts_of w f) 0) }
+    wanted: Wanted,
+    setup: &Frame,
+    cells: Cells<'_>,
+) -> io::Result<u32>
+    requires of_file { FieldOfFile setup.now cells.y.now cells.x.now cells.reference.now }
+    requires width { setup.now.width ≤ 2048 }
+    requires height { setup.now.height ≤ 2048 }
+    requires y { 65536 ≤ length cells.y.now }
+    requires x { 65536 ≤ length cells.x.now }
+    requires reference { 65536 ≤ length cells.reference.now }
+    ensures all { IfOk result (λ parts. parts ≡ parts_of wanted setup.now) }
+    ensures written { OnOk result (Appends (W.contents to.old) (W.contents to.new) (output wanted setup.now cells.entry.y.now cells.entry.x.now cells.entry.reference.now)) }
 {
-    let mut out = [0u8; 14592];
-    write_parts(to, w, f, field_y, field_x, field_ref, &mut out)
+    let view = View {
+        wanted,
+        setup,
+        cells,
+    };
+    view.write(to)
 }

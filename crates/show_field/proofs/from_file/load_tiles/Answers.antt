@@ -8,7 +8,11 @@ use Rattle.show_field.proofs.from_file.load_tiles.Goals as goal
 pub returns : goal.returns
 unfolding empty_store
 returns c =
-    let e : pack c.args.field_y.now c.args.field_x.now c.args.field_ref.now empty_store.traj_y empty_store.traj_x empty_store.map_y empty_store.map_x ≡ empty_store = rw (c.requires.1, c.requires.2, c.requires.3) refl in
-    let a = c.load_frame.ensures in
-    let w = a ∙ ap (until_refused _) e in
-    (ap (λ (t : After). t.number) w, ap (λ (t : After). t.store.field_y) w, ap (λ (t : After). t.store.field_x) w, ap (λ (t : After). t.store.field_ref) w)
+    let q = c.requires.empty in
+    let e : pack c.args.field.now.y.now c.args.field.now.x.now c.args.field.now.reference.now empty_store.traj_y empty_store.traj_x empty_store.map_y empty_store.map_x ≡ empty_store = rw (q.y, q.x, q.reference) refl in
+    let w = c.load_frame.ensures.loaded ∙ ap (until_refused _) e in
+    record {
+      same_field = c.load_frame.ensures.same_field;
+      refusal = ap (λ (t : After). t.number) w;
+      loaded = record { y = ap (λ (t : After). t.store.field_y) w; x = ap (λ (t : After). t.store.field_x) w; reference = ap (λ (t : After). t.store.field_ref) w };
+    }

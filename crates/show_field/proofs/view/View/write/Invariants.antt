@@ -1,0 +1,8 @@
+use Rattle.std.specs.Io.KnownBytes.{Appends}
+use Rattle.text.specs.Joined.{joined}
+use Rattle.show_field.specs.Output.{part_of}
+use Rattle.show_field.proofs.view.View.write.Given as goal
+
+abbrev pub invariant-loop-k : goal.invariant-loop-k
+invariant-loop-k g l =
+    Appends (g.W.Write.contents l.initial.to) (g.W.Write.contents l.to) (joined (part_of l.self.wanted l.self.setup.now l.self.cells.y.now l.self.cells.x.now l.self.cells.reference.now) l.k 0)
