@@ -8,6 +8,14 @@ use super::parse::{self, Fixities};
 use super::syntax::{Clause, Item, Pattern, Statement, Term, Use};
 use super::value::{ConId, Names, ShapeId};
 
+/// The constructors of the library's own types.
+const CONSTRUCTORS: [&str; 4] = [
+    "Rattle.std.specs.Prelude.Ok",
+    "Rattle.std.specs.Prelude.Err",
+    "Rattle.std.specs.Prelude.Some",
+    "Rattle.std.specs.Prelude.None",
+];
+
 pub type VarId = u32;
 pub type FnId = u32;
 
@@ -307,7 +315,9 @@ impl Library {
             let whole = format!("{path}.{there}");
             let entity = match self.by_name.get(&whole) {
                 Some(entity) => entity.clone(),
-                None if path.ends_with(".TheVariants") => {
+                None if path.ends_with(".TheVariants")
+                    || CONSTRUCTORS.contains(&whole.as_str()) =>
+                {
                     Entity::Con(self.names.constructor(&whole))
                 }
                 None => Entity::Unknown(whole),
