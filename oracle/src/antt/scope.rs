@@ -493,6 +493,8 @@ impl Inside<'_> {
         }
         match self.entity(name) {
             Some(entity) => self.of_entity(entity),
+            // the one value of the unit type
+            None if name == "tt" => Ir::Record(self.tuple_shape(0), Vec::new()),
             None => Ir::Bad(format!("{}: {name} is not in scope", self.parent)),
         }
     }
