@@ -20,6 +20,10 @@ hint_of h i = get_or h.ref_poc i no_hint
 abbrev pub saved_of : Pocs → ℕ → Saved
 saved_of h i = get_or h.saved i no_saved
 
+-- refusal 3, hint bits above 8: its number where it holds, else 0
+unfoldable pub bits_refusal : Pocs → ℕ
+bits_refusal h = cond (ltb 8 h.nbits) 3 0
+
 -- refusals 3 and 4, hint bits above 8 and slots above 7: the number of the first that holds, 0 for neither
 unfoldable pub hints_refusal : Pocs → ℕ
 hints_refusal h = cond (ltb 8 h.nbits) 3 (cond (ltb 7 h.n_refs) 4 0)

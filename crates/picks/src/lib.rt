@@ -4,7 +4,7 @@
 ghost use Rattle.std.specs.Prelude.{◌≡◌, ◌≤◌, ◌<◌, ◌+◌, IfOk};
 ghost use Rattle.levels.specs.Answer.{refusal_of};
 ghost use Rattle.env.specs.Hints.{hint_diff};
-ghost use Rattle.picks.specs.Hints.{hint_of, hints_refusal, saved_diff_of, same_side, closer_of, closest, on_side, some_on_side};
+ghost use Rattle.picks.specs.Hints.{hint_of, bits_refusal, hints_refusal, saved_diff_of, same_side, closer_of, closest, on_side, some_on_side};
 ghost use Rattle.picks.specs.Picks.{Valid, Slots, pushed, offered, with_side, nearer_earlier, in_turn, neighbours, nth_earlier, nth_later, nearest, both_ways, rest};
 
 use levels::{OrderHint, Refusal, Slot};
@@ -30,30 +30,48 @@ pub struct Pocs {
     pub saved: [Saved; 7],
 }
 
-/// The order hints of a header that refusals 3 and 4 let through: at most 8 bits, at most seven slots in use.
+/// The order hints of a header that refusal 3 lets through: at most 8 bits. Any number of slots in use.
 #[derive(Clone, Copy)]
 pub struct Hints {
     pub pocs: Pocs,
 
     ghost few_bits: { pocs.nbits ≤ 8 },
+}
 
-    ghost few_slots: { pocs.n_refs ≤ 7 },
+/// The order hints of a header that refusals 3 and 4 let through: at most 8 bits, and at most seven slots in use.
+#[derive(Clone, Copy)]
+pub struct FrameHints {
+    pub hints: Hints,
+
+    ghost few_slots: { hints.pocs.n_refs ≤ 7 },
 }
 
 impl TryFrom<Pocs> for Hints {
     type Error = Refusal;
 
-    ghost try_from_gives = { λ pocs r. (refusal_of r ≡ hints_refusal pocs) × IfOk r (λ h. h.pocs ≡ pocs) };
+    ghost try_from_gives = { λ pocs r. (refusal_of r ≡ bits_refusal pocs) × IfOk r (λ h. h.pocs ≡ pocs) };
 
-    #[tactic(auto, unfolding(crate::specs::Hints::hints_refusal))]
+    #[tactic(auto, unfolding(crate::specs::Hints::bits_refusal))]
     fn try_from(pocs: Pocs) -> Result<Hints, Refusal> {
         if 8 < pocs.nbits {
             return Err(Refusal::TooManyBits);
         }
+        Ok(Hints { pocs })
+    }
+}
+
+impl TryFrom<Pocs> for FrameHints {
+    type Error = Refusal;
+
+    ghost try_from_gives = { λ pocs r. (refusal_of r ≡ hints_refusal pocs) × IfOk r (λ h. h.hints.pocs ≡ pocs) };
+
+    #[tactic(auto, unfolding(crate::specs::Hints::hints_refusal, crate::specs::Hints::bits_refusal))]
+    fn try_from(pocs: Pocs) -> Result<FrameHints, Refusal> {
+        let hints = Hints::try_from(pocs)?;
         if 7 < pocs.n_refs {
             return Err(Refusal::TooManySlots);
         }
-        Ok(Hints { pocs })
+        Ok(FrameHints { hints })
     }
 }
 
@@ -236,15 +254,16 @@ impl Picks {
 
     /// Two rounds of the neighbours of the frame in the sorted order, of which `first` slots are earlier: up to three sources.
     #[tactic(auto, using(loops::proofs::Turns::span_turn, loops::proofs::Turns::span_end), unfolding(crate::specs::Picks::neighbours))]
-    pub fn pick_neighbours(&mut self, h: &Hints, order: &[Slot; 7], first: usize)
+    pub fn pick_neighbours(&mut self, h: &FrameHints, order: &[Slot; 7], first: usize)
         requires first { first ≤ 7 }
         requires slots { Slots order.now }
-        ensures { self.new ≡ neighbours h.now.pocs order.now first self.old }
+        ensures { self.new ≡ neighbours h.now.hints.pocs order.now first self.old }
     {
+        let hints = &h.hints;
         for n in 0..2 {
-            let a = h.with_side(nth_earlier(order, first, n + 1), true);
-            let b = h.with_side(nth_later(order, first, h.pocs.n_refs, n), false);
-            self.in_turn(h, a, b);
+            let a = hints.with_side(nth_earlier(order, first, n + 1), true);
+            let b = hints.with_side(nth_later(order, first, hints.pocs.n_refs, n), false);
+            self.in_turn(hints, a, b);
         }
     }
 
@@ -288,9 +307,8 @@ impl Picks {
 fn nth_earlier(order: &[Slot; 7], first: usize, k: usize) -> Option<Slot>
     requires first { first ≤ 7 }
     requires counted { 0 < k }
-    requires slots { Slots order.now }
     ensures value { result ≡ nth_earlier order.now first k }
-    ensures slot { Valid result }
+    ensures slot { Slots order.now → Valid result }
 {
     if first < k {
         None

@@ -7,6 +7,6 @@ use Rattle.picks.proofs.Picks.pick_neighbours.Goals as goal
 pub loop-n-preserved : goal.loop-n-preserved
 loop-n-preserved c =
     let l = c.loop-n in let a = c.args in
-    let e : c.in_turn.new.self ≡ round a.h.now.pocs a.order.now a.first l.n l.self =
+    let e : c.in_turn.new.self ≡ round a.h.now.hints.pocs a.order.now a.first l.n l.self =
     c.in_turn.ensures ∙ rw (c.with_side-a.ensures.value, c.with_side-b.ensures.value, c.nth_earlier.ensures.value, c.nth_later.ensures.value) in
-    turned (round a.h.now.pocs a.order.now a.first) 2 l.n l.self _ _ c.loop-n-test.true e l.invariant
+    turned (round a.h.now.hints.pocs a.order.now a.first) 2 l.n l.self _ _ c.loop-n-test.true e l.invariant
