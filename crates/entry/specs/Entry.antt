@@ -92,13 +92,13 @@ source_of h p = cond (ltb 31 (nat_abs (cur h p))) (blank_of p (negsuc 31)) (full
 
 -- ---- how the code goes about it: array after array
 
--- the difference of each of slot i's references
-unfoldable pub ref2ref_of : Pocs → ℕ → List ℤ
-ref2ref_of h i = seven (ref_diff h i)
+-- the difference of each reference, of the saved hints hs, to their slot, whose hint is a
+unfoldable pub ref2ref_of : ℕ → OrderHint → List OrderHint → List ℤ
+ref2ref_of nbits a hs = seven (diff_of nbits a hs)
 
 -- the slot with the hint of each
-unfoldable pub ref2idx_of : Pocs → ℕ → List ℤ
-ref2idx_of h i = seven (λ m. found_slot h.ref_poc (saved_hint h i m))
+unfoldable pub ref2idx_of : List OrderHint → List OrderHint → List ℤ
+ref2idx_of hints hs = seven (λ m. found_slot hints (get_or hs m no_hint))
 
 -- what is left of the difference d after c, or c
 abbrev pub part_of : Bool → ℤ → ℤ → ℤ

@@ -5,7 +5,7 @@ ghost use Rattle.std.specs.Prelude.{◌≡◌, ◌≤◌, ◌<◌, nat_abs, IfSo
 ghost use Rattle.entry.specs.Entry.{found, found_slot, ratio_z, near_z, ref2ref_of, ref2idx_of, part_of, factors_of, blank_of, source_of};
 
 use levels::{OrderHint, Slot};
-use picks::{Hints, MfmvRef};
+use picks::{Hints, MfmvRef, Saved};
 use std::array;
 
 /// The first of the first n slots with the hint x. From the back, so that no branch depends on where it is.
@@ -55,20 +55,18 @@ fn near(d: i32) -> i8
     if d < -31 || 31 < d { 0 } else { d as i8 }
 }
 
-// From each reference that was saved with slot s to the slot.
-fn ref2ref_of(h: &Hints, s: Slot) -> [i8; 7]
-    requires { s.0 < 7 }
-    ensures { result ≡ ref2ref_of h.now.pocs s.0 }
+// From each reference that was saved with a slot to the slot, whose hint is a.
+fn ref2ref_of(h: &Hints, a: OrderHint, saved: &Saved) -> [i8; 7]
+    ensures { result ≡ ref2ref_of h.now.pocs.nbits a saved.now.ref_poc }
 {
-    array::from_fn(|m| near(h.diff(h.hint(s), h.pocs.saved[s.index()].ref_poc[m])))
+    array::from_fn(|m| near(h.diff(a, saved.ref_poc[m])))
 }
 
 // The slot with the hint of each of those references.
-fn ref2idx_of(h: &Hints, s: Slot) -> [i8; 7]
-    requires { s.0 < 7 }
-    ensures { result ≡ ref2idx_of h.now.pocs s.0 }
+fn ref2idx_of(hints: &[OrderHint; 7], saved: &Saved) -> [i8; 7]
+    ensures { result ≡ ref2idx_of hints.now saved.now.ref_poc }
 {
-    array::from_fn(|m| slot_of(&h.pocs.ref_poc, h.pocs.saved[s.index()].ref_poc[m]))
+    array::from_fn(|m| slot_of(hints, saved.ref_poc[m]))
 }
 
 // The part of the difference d that a factor is for: what is left after cur, or cur.
@@ -126,18 +124,20 @@ pub fn source_of(h: &Hints, p: &MfmvRef) -> Source
     requires { p.now.reference.0 < 7 }
     ensures { result ≡ source_of h.now.pocs p.now }
 {
-    let cur = h.diff(h.hint(p.reference), h.pocs.poc);
+    let hint = h.hint(p.reference);
+    let cur = h.diff(hint, h.pocs.poc);
     if 31 < cur.unsigned_abs() {
         return blank(p, -32);
     }
-    let ref2ref = ref2ref_of(h, p.reference);
+    let saved = &h.pocs.saved[p.reference.index()];
+    let ref2ref = ref2ref_of(h, hint, saved);
     Source {
         reference: p.reference,
         tgt: p.tgt,
         dir: p.dir,
         ref2cur: cur as i8,
         ref2ref,
-        ref2idx: ref2idx_of(h, p.reference),
+        ref2idx: ref2idx_of(&h.pocs.ref_poc, saved),
         ref2sf0: factors(cur, &ref2ref, false),
         ref2sf1: factors(cur, &ref2ref, true),
     }

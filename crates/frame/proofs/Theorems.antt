@@ -8,7 +8,7 @@ use Rattle.picks.specs.Hints.{no_hint, saved_of}
 use Rattle.entry.specs.Entry.{found}
 use Rattle.entry.proofs.Laws.{found_low}
 use Rattle.loops.proofs.Seven.{seven_at}
-use Rattle.refs.specs.Refs.{diffs, slot_if, link_of, links_from, links_of}
+use Rattle.refs.specs.Refs.{diffs, slot_if, link_in, link_of, links_from, links_of}
 use Rattle.topo.specs.Topo.{number_of}
 use Rattle.topo.specs.Theorems.{Among}
 use Rattle.frame.specs.declared.Header.{Header}
@@ -88,7 +88,7 @@ none_target n true o h = inr (omega arith)
 none_target n false o h = h
 
 link_target : (h : Pocs) (i m : ℕ) → Target h.n_refs (link_of h i m)
-unfolding link_of
+unfolding link_in
 link_target h i m =
     let x = get_or (saved_of h i).ref_poc m no_hint in
     none_target h.n_refs (eqb (saved_of h i).refcnt 0) _ (found_target h.n_refs (found h.ref_poc x h.n_refs 0) (found_low h.ref_poc x h.n_refs 0))

@@ -8,7 +8,7 @@ ghost use Rattle.frame.specs.Frame.{leading, started, tip_pick, tip_add, with_ti
 
 use entry::Source;
 use levels::{Refusal, Slot};
-use picks::{Hints, MfmvRef, Picks, Pocs};
+use picks::{FrameHints, Hints, MfmvRef, Picks, Pocs};
 
 /// The sources, and the mask of the slots that are used.
 #[repr(C)]
@@ -162,7 +162,7 @@ fn tip_source(
 
 // All sources, in the order in which they are picked.
 fn pick_sources(
-    h: &Hints,
+    h: &FrameHints,
     present: &[bool; 7],
     tip: bool,
     a: Slot,
@@ -172,17 +172,18 @@ fn pick_sources(
 ) -> Picks
     requires first { a.0 < 7 }
     requires second { b.0 < 7 }
-    requires signs { sign.now ≡ signs h.now.pocs }
-    requires diffs { diff.now ≡ diffs h.now.pocs }
-    ensures { result ≡ picked h.now.pocs present.now tip a b }
+    requires signs { sign.now ≡ signs h.now.hints.pocs }
+    requires diffs { diff.now ≡ diffs h.now.hints.pocs }
+    ensures { result ≡ picked h.now.hints.pocs present.now tip a b }
 {
-    let n = h.pocs.n_refs;
+    let hints = &h.hints;
+    let n = hints.pocs.n_refs;
     let order = rank::sort_slots(diff, n);
     let first = first_later(sign, &order, n);
-    let links = refs::links_of(h);
+    let links = refs::links_of(&hints.pocs);
     let o = topo::topo_order(&links, n);
     let mut p = start(present, n);
-    tip_source(h, tip, sign, &o.place, a, b, &mut p);
+    tip_source(hints, tip, sign, &o.place, a, b, &mut p);
     p.pick_neighbours(h, &order, first);
     p.pick_nearest(&order, first);
     p.pick_rest(diff, &o.list, o.count);
@@ -258,13 +259,13 @@ fn tip_slot(t: i8) -> Slot
     }
 }
 
-fn sources_of(f: &Header, h: &Hints, sign: &[bool; 7], diff: &[i8; 7]) -> Sources
-    requires hints { h.now.pocs ≡ f.now.pocs }
-    requires signs { sign.now ≡ signs h.now.pocs }
-    requires diffs { diff.now ≡ diffs h.now.pocs }
+fn sources_of(f: &Header, h: &FrameHints, sign: &[bool; 7], diff: &[i8; 7]) -> Sources
+    requires hints { h.now.hints.pocs ≡ f.now.pocs }
+    requires signs { sign.now ≡ signs h.now.hints.pocs }
+    requires diffs { diff.now ≡ diffs h.now.hints.pocs }
     ensures { result ≡ sources_of f.now }
 {
-    if !f.use_ref_frame_mvs || h.pocs.nbits == 0 || h.pocs.n_refs < 2 {
+    if !f.use_ref_frame_mvs || h.hints.pocs.nbits == 0 || h.hints.pocs.n_refs < 2 {
         return no_sources(0, 0);
     }
     let p = pick_sources(
@@ -276,7 +277,7 @@ fn sources_of(f: &Header, h: &Hints, sign: &[bool; 7], diff: &[i8; 7]) -> Source
         sign,
         diff,
     );
-    fill_sources(h, &p)
+    fill_sources(&h.hints, &p)
 }
 
 #[tactic(auto, unfolding(crate::specs::Frame::tip_diff))]
@@ -385,12 +386,13 @@ fn check_tip(f: &Header) -> Result<(), Refusal>
     Ok(())
 }
 
-fn frame_of(f: &Header, h: &Hints) -> Frame
-    requires { h.now.pocs ≡ f.now.pocs }
+fn frame_of(f: &Header, h: &FrameHints) -> Frame
+    requires { h.now.hints.pocs ≡ f.now.pocs }
     ensures { result ≡ frame_of f.now }
 {
-    let ref_sign = refs::all_signs(h);
-    let pocdiff = refs::all_diffs(h);
+    let hints = &h.hints;
+    let ref_sign = refs::all_signs(hints);
+    let pocdiff = refs::all_diffs(hints);
     let a = tip_slot(f.tip0);
     let b = tip_slot(f.tip1);
     let sources = sources_of(f, h, &ref_sign, &pocdiff);
@@ -399,16 +401,16 @@ fn frame_of(f: &Header, h: &Hints) -> Frame
         height: f.height,
         sb128: f.sb128,
         tmvp_sample_step: f.tmvp_sample_step,
-        n_refs: h.pocs.n_refs,
+        n_refs: hints.pocs.n_refs,
         tip_frame_mode: f.tip_frame_mode,
         tip0: f.tip0,
         tip1: f.tip1,
         rp_ref: f.rp_ref,
         ref_sign,
         pocdiff,
-        abspocdiff: refs::all_abs_diffs(h),
+        abspocdiff: refs::all_abs_diffs(hints),
         ref_flip: refs::flip_mask(h, &ref_sign),
-        tip: tip_of(h, f.tip_frame_mode, f.has_bothside_refs, a, b, &pocdiff),
+        tip: tip_of(hints, f.tip_frame_mode, f.has_bothside_refs, a, b, &pocdiff),
         use_ref_frame_mvs: 0 < sources.n_mfmvs,
         sources,
     }
@@ -446,7 +448,7 @@ pub fn zero_frame() -> Frame
 pub fn init_frame(f: &Header) -> Result<Frame, Refusal>
     ensures { says_setup result ≡ setup_of f.now }
 {
-    let h = Hints::try_from(f.pocs)?;
+    let h = FrameHints::try_from(f.pocs)?;
     check_superblock(f)?;
     check_step(f)?;
     check_size(f)?;

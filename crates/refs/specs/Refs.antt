@@ -8,6 +8,7 @@ use Rattle.loops.specs.Seven.{seven, first_seven}
 use Rattle.intops.specs.Choice.{clip_z}
 use Rattle.env.specs.Hints.{hint_diff}
 use Rattle.picks.specs.declared.Pocs.{Pocs}
+use Rattle.picks.specs.declared.Saved.{Saved}
 use Rattle.levels.specs.declared.Slot.{Slot}
 use Rattle.levels.specs.Slots.{slot}
 use Rattle.picks.specs.Hints.{no_hint, hint_of, saved_of}
@@ -59,9 +60,13 @@ abbrev pub slot_if : Option ℕ → Option Slot
 slot_if None = None
 slot_if (Some k) = Some (slot k)
 
--- for the dependency order (refref2curref_idx): the first of the slots in use with the hint of slot i's reference n, or none; a slot with reference count 0 has none
-unfoldable pub link_of : Pocs → ℕ → ℕ → Option Slot
-link_of h i n = cond (eqb (saved_of h i).refcnt 0) None (slot_if (found h.ref_poc (get_or (saved_of h i).ref_poc n no_hint) h.n_refs 0))
+-- for the dependency order (refref2curref_idx): the first of the slots in use with the hint of a slot's reference n, or none; a slot with reference count 0 has none
+unfoldable pub link_in : Pocs → Saved → ℕ → Option Slot
+link_in h s n = cond (eqb s.refcnt 0) None (slot_if (found h.ref_poc (get_or s.ref_poc n no_hint) h.n_refs 0))
+
+-- that of slot i
+abbrev pub link_of : Pocs → ℕ → ℕ → Option Slot
+link_of h i n = link_in h (saved_of h i) n
 
 -- those of slot i; a slot that is not in use has none
 unfoldable pub links_from : Pocs → ℕ → List (Option Slot)

@@ -2,13 +2,13 @@
 // the dependency order follows.
 #![tactic(auto)]
 
-ghost use Rattle.std.specs.Prelude.{◌≡◌, ◌<◌, pos, nat_abs};
+ghost use Rattle.std.specs.Prelude.{◌≡◌, ◌≤◌, ◌<◌, pos, nat_abs};
 ghost use Rattle.std.specs.Int.Signed.{lt_z};
 ghost use Rattle.env.specs.Hints.{hint_diff};
-ghost use Rattle.refs.specs.Refs.{is_earlier, clipped, signs, diffs, abs_diffs, link_of, links_from, links_of, flips_of, flip_row, flip_mask};
+ghost use Rattle.refs.specs.Refs.{is_earlier, clipped, signs, diffs, abs_diffs, link_in, links_from, links_of, flips_of, flip_row, flip_mask};
 
 use levels::{OrderHint, Slot};
-use picks::Hints;
+use picks::{FrameHints, Hints, Pocs, Saved};
 use std::array;
 
 /// Is slot i earlier than the frame: ref_sign?
@@ -63,32 +63,32 @@ pub fn all_abs_diffs(h: &Hints) -> [u8; 7]
     array::from_fn(|i| if i < h.pocs.n_refs { abs_diff(h, i) } else { 0 })
 }
 
-/// The slot in use that reference n of slot i is: refref2curref_idx.
-#[tactic(auto, unfolding(crate::specs::Refs::link_of))]
-pub fn link_of(h: &Hints, i: usize, n: usize) -> Option<Slot>
-    requires slot { i < 7 }
+/// The slot in use that reference n of the hints saved with a slot is: refref2curref_idx.
+#[tactic(auto, unfolding(crate::specs::Refs::link_in))]
+pub fn link_of(pocs: &Pocs, saved: &Saved, n: usize) -> Option<Slot>
+    requires slots { pocs.now.n_refs ≤ 7 }
     requires reference { n < 7 }
-    ensures { result ≡ link_of h.now.pocs i n }
+    ensures { result ≡ link_in pocs.now saved.now n }
 {
-    let s = &h.pocs.saved[i];
-    if s.refcnt == 0 {
+    if saved.refcnt == 0 {
         return None;
     }
-    let refs = h.pocs.n_refs;
-    match entry::find_hint(&h.pocs.ref_poc, s.ref_poc[n], refs) {
+    let refs = pocs.n_refs;
+    match entry::find_hint(&pocs.ref_poc, saved.ref_poc[n], refs) {
         Some(k) => Some(Slot(k as u8)),
         None => None,
     }
 }
 
 // The links of slot i, none where it is not in use.
-fn links_from(h: &Hints, i: usize) -> [Option<Slot>; 7]
-    requires { i < 7 }
-    ensures { result ≡ links_from h.now.pocs i }
+fn links_from(pocs: &Pocs, i: usize) -> [Option<Slot>; 7]
+    requires slots { pocs.now.n_refs ≤ 7 }
+    requires slot { i < 7 }
+    ensures { result ≡ links_from pocs.now i }
 {
     array::from_fn(|n| {
-        if i < h.pocs.n_refs {
-            link_of(h, i, n)
+        if i < pocs.n_refs {
+            link_of(pocs, &pocs.saved[i], n)
         } else {
             None
         }
@@ -96,14 +96,16 @@ fn links_from(h: &Hints, i: usize) -> [Option<Slot>; 7]
 }
 
 /// The links of the slots in use, seven to a slot; the others have none.
-pub fn links_of(h: &Hints) -> [[Option<Slot>; 7]; 7]
-    ensures { result ≡ links_of h.now.pocs }
+pub fn links_of(pocs: &Pocs) -> [[Option<Slot>; 7]; 7]
+    requires slots { pocs.now.n_refs ≤ 7 }
+    ensures { result ≡ links_of pocs.now }
 {
     array::from_fn(
         |i|
-            requires { i < 7 }
-            ensures { result ≡ links_from h.entry.now.pocs i }
-        { links_from(h, i) },
+            requires slots { pocs.now.n_refs ≤ 7 }
+            requires slot { i < 7 }
+            ensures { result ≡ links_from pocs.entry.now i }
+        { links_from(pocs, i) },
     )
 }
 
@@ -117,13 +119,20 @@ pub fn flip(h: &Hints, x: bool, y: bool, a: OrderHint, b: OrderHint) -> bool
 
 /// Row i of the flip mask: bit n for each slot n in use.
 #[tactic(auto, using(loops::proofs::Turns::span_turn, loops::proofs::Turns::span_end), unfolding(crate::specs::Refs::flip_row))]
-pub fn flip_row(h: &Hints, sign: &[bool; 7], i: usize) -> u64
+pub fn flip_row(h: &FrameHints, sign: &[bool; 7], i: usize) -> u64
     requires { i < 7 }
-    ensures { result ≡ flip_row h.now.pocs sign.now i }
+    ensures { result ≡ flip_row h.now.hints.pocs sign.now i }
 {
+    let hints = &h.hints;
     let mut r: u64 = 0;
-    for n in 0..h.pocs.n_refs {
-        let f = flip(h, sign[i], sign[n], h.pocs.ref_poc[i], h.pocs.ref_poc[n]);
+    for n in 0..hints.pocs.n_refs {
+        let f = flip(
+            hints,
+            sign[i],
+            sign[n],
+            hints.pocs.ref_poc[i],
+            hints.pocs.ref_poc[n],
+        );
         r += u64::from(f) << n;
     }
     r
@@ -131,11 +140,11 @@ pub fn flip_row(h: &Hints, sign: &[bool; 7], i: usize) -> u64
 
 /// The flip mask, ref_flip: bit 8 i + n for the slots i and n in use.
 #[tactic(auto, using(loops::proofs::Turns::span_turn, loops::proofs::Turns::span_end), unfolding(crate::specs::Refs::flip_mask))]
-pub fn flip_mask(h: &Hints, sign: &[bool; 7]) -> u64
-    ensures { result ≡ flip_mask h.now.pocs sign.now }
+pub fn flip_mask(h: &FrameHints, sign: &[bool; 7]) -> u64
+    ensures { result ≡ flip_mask h.now.hints.pocs sign.now }
 {
     let mut m: u64 = 0;
-    for i in 0..h.pocs.n_refs {
+    for i in 0..h.hints.pocs.n_refs {
         m += flip_row(h, sign, i) << (8 * i);
     }
     m

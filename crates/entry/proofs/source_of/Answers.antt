@@ -10,7 +10,7 @@ use Rattle.entry.proofs.source_of.Goals as goal
 cur_is : (c : After-unsigned_abs) → let d = c.diff-cur.result in (d ≡ cur c.args.h.now.pocs c.args.p.now) × (c.unsigned_abs.result ≡ nat_abs d) × SFits w32 d
 cur_is c =
     let d = c.diff-cur.result in let f : SFits w32 d = search rules in
-    (c.diff-cur.ensures ∙ ap (λ a. hint_diff c.args.h.now.pocs.nbits a c.args.h.now.pocs.poc) c.hint.ensures, simp back at c.unsigned_abs.ensures.value, f)
+    (c.diff-cur.ensures ∙ ap (λ a. hint_diff c.args.h.now.pocs.nbits a c.args.h.now.pocs.poc) c.hint-hint.ensures, simp back at c.unsigned_abs.ensures.value, f)
 
 pub returns-then-unsigned_abs-gt31 : goal.returns-then-unsigned_abs-gt31
 unfolding source_of
@@ -27,4 +27,4 @@ returns c =
     let g : SFits w8 d = omega (signed, ud d) in
     let t : SFits w8 c.args.p.now.tgt = search rules in
     let x = simp back at c.factors.ensures in let y = simp back at c.factors-2.ensures in
-    rw (← k, le-ltb _ _ e) (simp back (rw (y, x, c.ref2idx_of.ensures, c.ref2ref_of-ref2ref.ensures)))
+    rw (← k, le-ltb _ _ e) (simp back (rw (y, x, c.ref2idx_of.ensures, c.ref2ref_of-ref2ref.ensures, c.hint-hint.ensures, c.index.ensures)))

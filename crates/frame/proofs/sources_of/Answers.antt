@@ -19,7 +19,7 @@ returns-then-not-f c =
 pub fill_sources-requires : goal.fill_sources-requires
 fill_sources-requires c =
     let f = c.args.f.now in let h = c.args.h.now in
-    rw (c.pick_sources-p.ensures) (picked_fine h.pocs f.rp_ref f.tip _ _ h.few_slots c.tip_slot.ensures.low c.tip_slot-2.ensures.low)
+    rw (c.pick_sources-p.ensures) (picked_fine h.hints.pocs f.rp_ref f.tip _ _ h.few_slots c.tip_slot.ensures.low c.tip_slot-2.ensures.low)
 
 pub returns : goal.returns
 unfolding sources_of

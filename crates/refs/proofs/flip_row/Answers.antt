@@ -8,7 +8,7 @@ use Rattle.refs.proofs.flip_row.Goals as goal
 
 pub loop-n-preserved : goal.loop-n-preserved
 loop-n-preserved c =
-    let l = c.loop-n in let a = c.args in let h = a.h.now.pocs in let f = c.flip-f.result in
+    let l = c.loop-n in let a = c.args in let h = a.h.now.hints.pocs in let f = c.flip-f.result in
     rw (c.from.ensures, bit_is f l.n (omega arith)) (
       omega (arith, bit_le f l.n, pow_next l.n),
       turned (add_flip h a.sign.now a.i) h.n_refs l.n l.r _ _ c.loop-n-test.true (ap (λ (b : Bool). l.r + bool_byte b * 2 ^ l.n) c.flip-f.ensures) l.invariant.1,

@@ -7,4 +7,4 @@ use Rattle.refs.proofs.links_of.Goals as goal
 
 pub returns : goal.returns
 unfolding links_of
-returns c = let h = c.args.h.now.pocs in made_is _ _ (links_from h) (λ i y q l k. search (rules, tests)) _ c.from_fn.ensures.items
+returns c = let h = c.args.pocs.now in made_is _ _ (links_from h) (λ i y q l k. search (rules, tests)) _ c.from_fn.ensures.items
