@@ -10,7 +10,7 @@ use frame::{Frame, Header, Sources, Tip};
 use levels::{OrderHint, Refusal};
 use picks::{Pocs, Saved};
 
-// A header as C hands it over: switches are bytes, on where not 0.
+/// A header as C hands it over: switches are bytes, on where not 0.
 #[repr(C)]
 #[derive(Clone, Copy)]
 pub struct CHeader {
@@ -32,7 +32,7 @@ pub struct CHeader {
     pub rp_ref: [u8; 7],
 }
 
-// The refusal's number, and the record.
+/// A setup as C gets it: the refusal's number, 0 for none, and the record.
 #[repr(C)]
 #[derive(Clone, Copy)]
 pub struct CSetup {
@@ -54,7 +54,7 @@ impl From<Result<Frame, Refusal>> for CSetup {
     }
 }
 
-// A setup as C hands it to a load: as it was given, but that switches are bytes, on where not 0.
+/// A setup as C hands it to a load: as it was given, but that switches are bytes, on where not 0.
 #[repr(C)]
 #[derive(Clone, Copy)]
 pub struct CFrame {
@@ -76,6 +76,7 @@ pub struct CFrame {
     pub sources: Sources,
 }
 
+// Seven switches: on where a byte is not 0.
 fn switches(bytes: [u8; 7]) -> [bool; 7]
     ensures { result ≡ switches_of bytes }
 {
@@ -90,6 +91,7 @@ fn switches(bytes: [u8; 7]) -> [bool; 7]
     ]
 }
 
+/// The header that C hands over, its switches read.
 pub fn header_of(c: CHeader) -> Header
     ensures { result ≡ header_of c }
 {
@@ -99,6 +101,7 @@ pub fn header_of(c: CHeader) -> Header
     let pocs = Pocs {
         nbits: c.order_hint_n_bits,
         poc,
+        // `as`, as no From goes from u32 to usize.
         n_refs: c.n_ref_frames as usize,
         ref_poc,
         saved,
@@ -121,6 +124,7 @@ pub fn header_of(c: CHeader) -> Header
     }
 }
 
+/// The setup that C hands to a load, its switches read.
 pub fn frame_of(given: CFrame) -> Frame
     ensures { result ≡ frame_of given }
 {

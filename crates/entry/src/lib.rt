@@ -30,6 +30,7 @@ fn slot_of(hints: &[OrderHint; 7], x: OrderHint) -> i8
     ensures { result ≡ found_slot hints.now x }
 {
     match find_hint(hints, x, 7) {
+        // `as`, as no From goes from usize to i8: k is below 7.
         Some(k) => k as i8,
         None => -1,
     }
@@ -39,6 +40,7 @@ fn slot_of(hints: &[OrderHint; 7], x: OrderHint) -> i8
 pub fn ratio(a: i32, b: i32) -> i32
     ensures { result ≡ ratio_z a b }
 {
+    // `as` here and below, as no From goes from u32 to usize or i32: 31 at most, and 507,904 at most.
     let size = a.unsigned_abs().min(31)
         * u32::from(mv::div_mult(b.unsigned_abs().min(31) as usize));
     if (a < 0) == (b < 0) {
@@ -52,6 +54,7 @@ pub fn ratio(a: i32, b: i32) -> i32
 fn near(d: i32) -> i8
     ensures { result ≡ near_z d }
 {
+    // `as`, as no From goes from i32 to i8.
     if d < -31 || 31 < d { 0 } else { d as i8 }
 }
 
@@ -135,6 +138,7 @@ pub fn source_of(h: &Hints, p: &MfmvRef) -> Source
         reference: p.reference,
         tgt: p.tgt,
         dir: p.dir,
+        // `as`, as no From goes from i32 to i8: cur is 31 at most.
         ref2cur: cur as i8,
         ref2ref,
         ref2idx: ref2idx_of(&h.pocs.ref_poc, saved),

@@ -119,6 +119,7 @@ fn tip_pick(h: &Hints, s: Slot, t: Slot) -> MfmvRef
 {
     MfmvRef {
         reference: s,
+        // `as`, as no From goes from u8 to i8: a slot is below 7.
         tgt: t.0 as i8,
         dir: u8::from(h.diff(h.hint(s), h.hint(t)) < 0),
     }
@@ -255,6 +256,7 @@ fn tip_slot(t: i8) -> Slot
     if t < 0 || 6 < t {
         Slot(0)
     } else {
+        // `as`, as no From goes from i8 to u8: t is 0 to 6 here.
         Slot(t as u8)
     }
 }
@@ -332,6 +334,7 @@ fn looks_at_tip(f: &Header) -> bool
 fn not_in_use(f: &Header, t: i8) -> bool
     ensures { result ≡ not_in_use f.now t }
 {
+    // `as`, as no From goes from i8 to usize: t is not below 0 there.
     t < 0 || f.pocs.n_refs <= t as usize
 }
 

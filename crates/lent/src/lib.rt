@@ -25,6 +25,7 @@ fn put_mv(answer: Result<Mv, Refusal>, out: &mut [i32; 2]) -> u32
     }
 }
 
+/// `mv::mv_projection` for C: the projected vector goes into out, y first; the answer is the refusal's number, 0 for none.
 pub fn mv_projection(
     y: i32,
     x: i32,
@@ -39,19 +40,21 @@ pub fn mv_projection(
     put_mv(mv::mv_projection(Mv { y, x }, num, den, min, max), out)
 }
 
+/// `mv::scale_mv` for C, in the same way.
 pub fn scale_mv(y: i32, x: i32, sf: i32, out: &mut [i32; 2]) -> u32
     ensures { Gives (scale_mv (record { y = y; x = x }) sf) result out.old out.new }
 {
     put_mv(mv::scale_mv(Mv { y, x }, sf), out)
 }
 
+/// `mv::dequantize_mv` for C, in the same way.
 pub fn dequantize_mv(y: i8, x: i8, out: &mut [i32; 2]) -> u32
     ensures { Gives (unpacked (record { y = y; x = x })) result out.old out.new }
 {
     put_mv(mv::dequantize_mv(QMv { y, x }), out)
 }
 
-// Packing refuses nothing: what has no code is the mark.
+/// `mv::quantize_mv` for C: the packed vector goes into out, y first. Packing refuses nothing, so the answer is 0: what has no code is the mark.
 pub fn quantize_mv(y: i32, x: i32, out: &mut [i8; 2]) -> u32
     ensures { GivesBytes (packed (record { y = y; x = x })) result out.old out.new }
 {
@@ -61,6 +64,7 @@ pub fn quantize_mv(y: i32, x: i32, out: &mut [i8; 2]) -> u32
     0
 }
 
+/// `env::get_poc_diff` for C: the difference goes into out; the answer is the refusal's number, 0 for none.
 pub fn get_poc_diff(
     order_hint_n_bits: u32,
     poc0: OrderHint,

@@ -38,6 +38,7 @@ impl QMv {
 }
 
 /// A reference slot, 0 to 6: who takes one tests it. It is no order hint.
+// No type of 0 to 6 alone (`TryFrom<u8>`, `impl Model`): it stands in the records that C hands over, in which it may be any byte, and a load tests those.
 #[repr(C)]
 #[derive(Clone, Copy, PartialEq, Eq, Debug)]
 pub struct Slot(pub u8);

@@ -34,6 +34,7 @@ pub fn projection_factor(num: i32, den: i32) -> i32
 {
     let n = intops::iclip(num, -31, 31);
     let d = intops::iclip(den, 1, 31);
+    // `as`, as no From goes from i32 to usize: d is 1 to 31.
     let m = div_mult(d as usize);
     n * i32::from(m)
 }
@@ -102,6 +103,7 @@ pub fn quantize_signed(v: i32) -> i8
     requires { nat_abs v < 2048 }
     ensures { result ≡ with_sign v (pack_code (nat_abs v)) }
 {
+    // `as`, as no From goes from i32 to i8: a code is below 128.
     intops::apply_sign(quantize_mv_comp(intops::unsigned_abs(v)), v) as i8
 }
 
@@ -166,6 +168,7 @@ pub fn average_of(sum: i64, n: usize, idiv: u32, bits: u32) -> i32
     ensures { result ≡ round_div (2 ^ bits) (sum *ℤ pos idiv) }
 {
     let p = sum * i64::from(idiv);
+    // `as`, as no From goes from i64 to i32: an average of numbers of 32 bits has 32 bits.
     intops::round_shift(p, bits) as i32
 }
 
@@ -174,7 +177,8 @@ const SMOOTHEN_IDIV: [u32; 6] = [0, 65536, 32768, 21845, 16384, 13107];
 
 /// The reciprocal of n for the averages of smoothen, SMOOTHEN_IDIV in refmvs.rs: 65536 / n, the whole part.
 pub fn smoothen_idiv(n: usize) -> u32
-    requires { (1 ≤ n) × (n ≤ 5) }
+    requires some { 1 ≤ n }
+    requires few { n ≤ 5 }
     ensures { result ≡ 65536 / n }
 {
     SMOOTHEN_IDIV[n]
@@ -184,7 +188,9 @@ pub fn smoothen_idiv(n: usize) -> u32
 // It and gap_average are `average_of` at their own reciprocals and bits; a const parameter for these would want the reciprocals as a trait.
 #[tactic(auto, unfolding(crate::specs::Averages::smoothed))]
 pub fn smooth_average(sum: i64, n: usize) -> i32
-    requires { (1 ≤ n) × (n ≤ 5) × SumOf n sum }
+    requires some { 1 ≤ n }
+    requires few { n ≤ 5 }
+    requires sum { SumOf n sum }
     ensures { result ≡ smoothed n sum }
 {
     average_of(sum, n, smoothen_idiv(n), 16)
@@ -193,17 +199,21 @@ pub fn smooth_average(sum: i64, n: usize) -> i32
 /// The reciprocal of n for the averages of gap filling: 256 / n, the whole part.
 // 256, 128, 85 and 64 stand in the four parts of one number: with a table, as for smoothen, a gap of four cells takes 7% longer.
 pub fn gap_idiv(n: usize) -> u32
-    requires { (1 ≤ n) × (n ≤ 4) }
+    requires some { 1 ≤ n }
+    requires few { n ≤ 4 }
     ensures { result ≡ 256 / n }
 {
     let all: u64 = 18014763590091008;
+    // `as`, as no From goes from usize or u64 to u32: n is 4 at most, and a part has 16 bits.
     ((all >> (16 * (n as u32 - 1))) & 65535) as u32
 }
 
 /// The average of fill_gap_proj and fill_gap_traj over n cells.
 #[tactic(auto, unfolding(crate::specs::Averages::gap_mean))]
 pub fn gap_average(sum: i64, n: usize) -> i32
-    requires { (1 ≤ n) × (n ≤ 4) × SumOf n sum }
+    requires some { 1 ≤ n }
+    requires few { n ≤ 4 }
+    requires sum { SumOf n sum }
     ensures { result ≡ gap_mean n sum }
 {
     average_of(sum, n, gap_idiv(n), 8)
@@ -230,15 +240,22 @@ impl Sum {
     /// The sum of one cell, which is not empty.
     pub fn one(v: Mv) -> Sum
         requires { is_empty v ≡ false }
-        ensures { (result ≡ added v no_sum) × Fair result × (result.n ≤ 1) × (1 ≤ result.n) }
+        ensures sum { result ≡ added v no_sum }
+        ensures fair { Fair result }
+        ensures few { result.n ≤ 1 }
+        ensures some { 1 ≤ result.n }
     {
         Sum::NONE.add(v)
     }
 
     /// A cell is added, if it is not empty.
     pub fn add(self, v: Mv) -> Sum
-        requires { Fair self × (self.n ≤ 4) }
-        ensures { (result ≡ added v self) × Fair result × (self.n ≤ result.n) × (result.n ≤ self.n + 1) }
+        requires fair { Fair self }
+        requires few { self.n ≤ 4 }
+        ensures sum { result ≡ added v self }
+        ensures fair { Fair result }
+        ensures no_fewer { self.n ≤ result.n }
+        ensures one_more { result.n ≤ self.n + 1 }
     {
         let there = !is_empty(v);
         let y = self.y + kept(there, v.y);
@@ -252,7 +269,8 @@ impl Sum {
 
     /// The mean of smoothen, empty where no cell was added.
     pub fn smoothed(self) -> Mv
-        requires { Fair self × (self.n ≤ 5) }
+        requires fair { Fair self }
+        requires few { self.n ≤ 5 }
         ensures { result ≡ smoothed_of self }
     {
         if self.n == 0 {
@@ -265,7 +283,9 @@ impl Sum {
 
     /// The mean of gap filling.
     pub fn gap_mean(self) -> Mv
-        requires { Fair self × (1 ≤ self.n) × (self.n ≤ 4) }
+        requires fair { Fair self }
+        requires some { 1 ≤ self.n }
+        requires few { self.n ≤ 4 }
         ensures { result ≡ gap_of self }
     {
         let y = gap_average(self.y, self.n);
@@ -274,6 +294,7 @@ impl Sum {
     }
 }
 
+// The mean of two numbers, as gap filling takes it.
 fn mean_of_two(a: i32, b: i32) -> i32
     ensures { result ≡ gap_mean 2 (a +ℤ b) }
 {

@@ -25,6 +25,7 @@ pub fn clipped_diff(h: &Hints, i: usize) -> i8
     requires { i < 7 }
     ensures { result ≡ clipped h.now.pocs i }
 {
+    // `as`, as no From goes from i32 to i8.
     intops::iclip(h.diff(h.pocs.poc, h.pocs.ref_poc[i]), -31, 31) as i8
 }
 
@@ -75,6 +76,7 @@ pub fn link_of(pocs: &Pocs, saved: &Saved, n: usize) -> Option<Slot>
     }
     let refs = pocs.n_refs;
     match entry::find_hint(&pocs.ref_poc, saved.ref_poc[n], refs) {
+        // `as`, as no From goes from usize to u8: k is below 7.
         Some(k) => Some(Slot(k as u8)),
         None => None,
     }

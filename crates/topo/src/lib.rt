@@ -41,6 +41,7 @@ pub fn topo_insert(o: Order, links: &[[Option<Slot>; 7]; 7], slot: Slot) -> Orde
     }
     let k = st.count;
     st.list[k] = slot;
+    // `as`, as no From goes from usize to u8: k is below 7.
     st.place[at] = k as u8;
     st.count = k + 1;
     st
@@ -57,6 +58,7 @@ pub fn topo_order(links: &[[Option<Slot>; 7]; 7], n: usize) -> Order
         count: 0,
     };
     for i in 0..n {
+        // `as`, as no From goes from usize to u8: i is below 7.
         o = topo_insert(o, links, Slot(i as u8));
     }
     o

@@ -46,4 +46,4 @@ pub returns-clause-mean : goal.returns-clause-mean
 returns-clause-mean c = let a = c.args in c.gap_of_two.ensures ∙ ap (λ (w : Mv). gap_of (added w (added a.v no_sum))) (neighbour (goal.at.returns-clause-mean c).After-project-a)
 
 pub returns-clause-sum : goal.returns-clause-sum
-returns-clause-sum c = c.add.ensures.0 ∙ ap (λ (w : Mv). added w c.args.s) (neighbour (goal.at.returns-clause-sum c).After-project-a)
+returns-clause-sum c = c.add.ensures.sum ∙ ap (λ (w : Mv). added w c.args.s) (neighbour (goal.at.returns-clause-sum c).After-project-a)

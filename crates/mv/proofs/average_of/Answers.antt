@@ -22,10 +22,10 @@ fits c = let a = c.args in rw (is c) (average_fits a.n a.sum a.idiv a.bits c.req
 pub overflow_mul-p : goal.overflow_mul-p
 overflow_mul-p c = let (f, g, h) = ways (goal.at.overflow_mul-p c).Start in rw (i64_is c) (simp back h)
 
-pub round_shift-requires : goal.round_shift-requires
-round_shift-requires c =
-    let s = (goal.at.round_shift-requires c).Start in let a = s.args in let (f, g, h) = ways s in let q = s.requires in
-    (rw (i64_is c) (simp back (within_mono (omega arith) (product_within a.n a.sum a.idiv a.bits s.requires))), omega arith, omega arith)
+pub round_shift-requires-clause-small : goal.round_shift-requires-clause-small
+round_shift-requires-clause-small c =
+    let s = (goal.at.round_shift-requires-clause-small c).Start in let a = s.args in let (f, g, h) = ways s in
+    rw (i64_is c) (simp back (within_mono (omega arith) (product_within a.n a.sum a.idiv a.bits s.requires)))
 
 pub overflow_cast-result : goal.overflow_cast-result
 overflow_cast-result c = let f : SFits w64 c.round_shift.result = search rules in simp back (fits c)

@@ -9,4 +9,4 @@ part : (all n : ℕ) → bit_and (all / 2 ^ 0) 65535 ≡ 256 → bit_and (all / 
 part all n a b c d l h = five (λ (n : ℕ). n ≤ 4 → bit_and (all / 2 ^ (16 * (n - 1))) 65535 ≡ 256 / n) (λ _. a) (λ _. b) (λ _. c) (λ _. d) (λ k. absurd (omega arith)) n l (omega arith) h
 
 pub returns : goal.returns
-returns c = part _ c.args.n refl refl refl refl c.requires.0 c.requires.1
+returns c = part _ c.args.n refl refl refl refl c.requires.some c.requires.few

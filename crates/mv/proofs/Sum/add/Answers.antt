@@ -41,6 +41,7 @@ pub returns : goal.returns
 returns c =
     let a = c.args in let i = c.is_empty-there in let fy : SFits w32 a.v.y = search rules in let fx : SFits w32 a.v.x = search rules in
     let py : SFits w64 a.self.y = search rules in let px : SFits w64 a.self.x = search rules in
-    rw c.from.ensures (made a.v a.self i.result _ _ (sym i.ensures) c.requires.0 fy fx
-    (sum_of a.self.y _ c.kept.result py (let g : SFits w64 c.kept.result = search rules in g) (kept_of (not i.result) fy c.kept.ensures) (fits_more a.self (not i.result) a.v.y a.self.y c.requires.0.y c.requires.1 fy))
-    (sum_of a.self.x _ c.kept-2.result px (let g : SFits w64 c.kept-2.result = search rules in g) (kept_of (not i.result) fx c.kept-2.ensures) (fits_more a.self (not i.result) a.v.x a.self.x c.requires.0.x c.requires.1 fx)))
+    let (e, f, l, u) = made a.v a.self i.result _ _ (sym i.ensures) c.requires.fair fy fx
+    (sum_of a.self.y _ c.kept.result py (let g : SFits w64 c.kept.result = search rules in g) (kept_of (not i.result) fy c.kept.ensures) (fits_more a.self (not i.result) a.v.y a.self.y c.requires.fair.y c.requires.few fy))
+    (sum_of a.self.x _ c.kept-2.result px (let g : SFits w64 c.kept-2.result = search rules in g) (kept_of (not i.result) fx c.kept-2.ensures) (fits_more a.self (not i.result) a.v.x a.self.x c.requires.fair.x c.requires.few fx)) in
+    rw c.from.ensures (record { sum = e; fair = f; no_fewer = l; one_more = u })
