@@ -92,66 +92,69 @@ fn switches(bytes: [u8; 7]) -> [bool; 7]
 }
 
 /// The header that C hands over, its switches read.
-pub fn header_of(c: CHeader) -> Header
-    ensures { result ≡ header_of c }
-{
-    let ref_poc = c.ref_poc;
-    let saved = c.saved;
-    let poc = c.frame_offset;
-    let pocs = Pocs {
-        nbits: c.order_hint_n_bits,
-        poc,
-        // `as`, as no From goes from u32 to usize.
-        n_refs: c.n_ref_frames as usize,
-        ref_poc,
-        saved,
-    };
-    let bytes = c.rp_ref;
-    let rp_ref = switches(bytes);
-    Header {
-        width: c.width,
-        height: c.height,
-        sb128: c.sb128,
-        tmvp_sample_step: c.tmvp_sample_step,
-        tip: c.tip != 0,
-        use_ref_frame_mvs: c.use_ref_frame_mvs != 0,
-        has_bothside_refs: c.has_bothside_refs != 0,
-        tip_frame_mode: c.tip_frame_mode,
-        tip0: c.tip0,
-        tip1: c.tip1,
-        rp_ref,
-        pocs,
+impl From<CHeader> for Header {
+    ghost from_gives = { λ c h. h ≡ header_of c };
+
+    fn from(c: CHeader) -> Header {
+        // Arrays are read into variables first: the check takes none straight from one record into another.
+        let ref_poc = c.ref_poc;
+        let saved = c.saved;
+        let present = c.rp_ref;
+        let pocs = Pocs {
+            nbits: c.order_hint_n_bits,
+            poc: c.frame_offset,
+            // `as`, as no From goes from u32 to usize.
+            n_refs: c.n_ref_frames as usize,
+            ref_poc,
+            saved,
+        };
+        let rp_ref = switches(present);
+        Header {
+            width: c.width,
+            height: c.height,
+            sb128: c.sb128,
+            tmvp_sample_step: c.tmvp_sample_step,
+            tip: c.tip != 0,
+            use_ref_frame_mvs: c.use_ref_frame_mvs != 0,
+            has_bothside_refs: c.has_bothside_refs != 0,
+            tip_frame_mode: c.tip_frame_mode,
+            tip0: c.tip0,
+            tip1: c.tip1,
+            rp_ref,
+            pocs,
+        }
     }
 }
 
 /// The setup that C hands to a load, its switches read.
-pub fn frame_of(given: CFrame) -> Frame
-    ensures { result ≡ frame_of given }
-{
-    let present = given.rp_ref;
-    let signs = given.ref_sign;
-    let rp_ref = switches(present);
-    let ref_sign = switches(signs);
-    let pocdiff = given.pocdiff;
-    let abspocdiff = given.abspocdiff;
-    let tip = given.tip;
-    let sources = given.sources;
-    Frame {
-        width: given.width,
-        height: given.height,
-        sb128: given.sb128,
-        tmvp_sample_step: given.tmvp_sample_step,
-        n_refs: given.n_refs,
-        tip_frame_mode: given.tip_frame_mode,
-        tip0: given.tip0,
-        tip1: given.tip1,
-        rp_ref,
-        ref_sign,
-        pocdiff,
-        abspocdiff,
-        ref_flip: given.ref_flip,
-        tip,
-        use_ref_frame_mvs: given.use_ref_frame_mvs != 0,
-        sources,
+impl From<CFrame> for Frame {
+    ghost from_gives = { λ c f. f ≡ frame_of c };
+
+    fn from(given: CFrame) -> Frame {
+        // Arrays are read into variables first, as above.
+        let present = given.rp_ref;
+        let signs = given.ref_sign;
+        let pocdiff = given.pocdiff;
+        let abspocdiff = given.abspocdiff;
+        let rp_ref = switches(present);
+        let ref_sign = switches(signs);
+        Frame {
+            width: given.width,
+            height: given.height,
+            sb128: given.sb128,
+            tmvp_sample_step: given.tmvp_sample_step,
+            n_refs: given.n_refs,
+            tip_frame_mode: given.tip_frame_mode,
+            tip0: given.tip0,
+            tip1: given.tip1,
+            rp_ref,
+            ref_sign,
+            pocdiff,
+            abspocdiff,
+            ref_flip: given.ref_flip,
+            tip: given.tip,
+            use_ref_frame_mvs: given.use_ref_frame_mvs != 0,
+            sources: given.sources,
+        }
     }
 }

@@ -17,6 +17,7 @@ ghost use Rattle.c_setup.specs.Setup.{on, header_of, given_by, frame_of};
 
 use c_setup::{CFrame, CHeader, CSetup};
 use field::Field;
+use frame::{Frame, Header};
 use levels::OrderHint;
 use load::Asked;
 use store::Pairs;
@@ -68,7 +69,7 @@ pub fn refmvs_get_poc_diff(
 pub fn refmvs_init_frame(header: CHeader) -> CSetup
     ensures { given_by result ≡ setup_of (header_of header) }
 {
-    CSetup::from(frame::init_frame(&c_setup::header_of(header)))
+    CSetup::from(frame::init_frame(&Header::from(header)))
 }
 
 // A load of a tile. The lent slices may be longer than 01 states; a refused call leaves them as they were.
@@ -96,7 +97,7 @@ pub fn refmvs_load_tmvs(
         × (pack field_y.new field_x.new field_ref.new traj_y.new traj_x.new map_y.new map_x.new
         ≡ called answer load c s) }
 {
-    let frame = c_setup::frame_of(setup);
+    let frame = Frame::from(setup);
     let asked = Asked {
         whole_frame: whole_frame != 0,
         traj: traj != 0,

@@ -4,4 +4,4 @@ use Rattle.frame.specs.Frame.{setup_of}
 use Rattle.refmvs.proofs.refmvs_init_frame.Goals as goal
 
 pub returns : goal.returns
-returns c = c.from.ensures ∙ c.init_frame.ensures ∙ ap setup_of c.header_of.ensures
+returns c = c.from-2.ensures ∙ c.init_frame.ensures ∙ ap setup_of c.from.ensures
