@@ -1,8 +1,10 @@
 -- The leading run; that what is picked are sources in range; the straight lines of calls. Assumes nothing.
-use Rattle.std.proofs.Common.{◌≡◌, refl, Bool, true, false, cond, ◌&&◌, ◌||◌, Option, Some, None, Ok, Err, List, ℕ, zero, suc, ◌+◌, ◌*◌, ◌-◌, ◌<◌, ◌≤◌, ltb, leb, ℤ, pos, negsuc, nat_abs, leb-false, ne_eqb, ltb-false, arith, get_or, replicate}
+use Rattle.std.proofs.Common.{◌≡◌, refl, sym, ◌∙◌, length, [], ◌∷◌, ◌/◌, Bool, true, false, cond, ◌&&◌, ◌||◌, Option, Some, None, Ok, Err, List, ℕ, zero, suc, ◌+◌, ◌*◌, ◌-◌, ◌<◌, ◌≤◌, ltb, leb, ℤ, pos, negsuc, nat_abs, leb-false, ne_eqb, ltb-false, arith, get_or, replicate}
+use Rattle.std.proofs.lemmas.List.{ext_get_or}
 use Rattle.std.specs.Bool.{⊤}
 use lib.Signed.{le_z, lt_z}
 use Rattle.env.specs.Hints.{hint_diff}
+use Rattle.entry.specs.declared.Source.{Source}
 use Rattle.entry.specs.Entry.{ratio_z}
 use Rattle.intops.proofs.Signed.{signed, ud}
 use Rattle.frame.specs.declared.Header.{Header}
@@ -25,7 +27,7 @@ use Rattle.levels.specs.declared.Slot.{Slot}
 use Rattle.levels.specs.Slots.{slot, slot_at}
 use Rattle.picks.specs.Picks.{Valid, Slots, pushed, offered, with_side, nearer_earlier, in_turn, round, neighbours, nth_earlier, nth_later, nearest, both_ways, from_end, rest}
 use Rattle.refs.specs.Refs.{links_of, diffs, signs}
-use Rattle.frame.specs.Frame.{Fine, Pickable, leading, no_pick, put_taken, started, tip_pick, tip_put, tip_add, with_tip, picked, tip_diff, in_byte, tip_with, tip_of, slot_of, refusal_of, refused_if, frame_of, zero_frame, setup_of}
+use Rattle.frame.specs.Frame.{Fine, Pickable, leading, no_pick, both, no_source, started, tip_pick, tip_put, tip_add, with_tip, picked, tip_diff, in_byte, tip_with, tip_of, slot_of, refusal_of, refused_if, frame_of, zero_frame, setup_of}
 
 module _ (sg : List Bool) (xs : List Slot) (n l : ℕ) where
   pub lead_here : l < n → get_or sg (slot_at xs l) false ≡ false → leading sg xs (n - l) l ≡ l
@@ -101,7 +103,7 @@ rest_fine d xs n p v fp =
 
 pub started_none : (present : List Bool) (n : ℕ) → (started present n).count ≡ 0
 unfolding started
-started_none present n = span_in (λ (p : Picks). p.count ≡ 0) (put_taken present) n (λ k q l e. e) _ refl
+started_none present n = refl
 
 zeros : (n k : ℕ) → Pickable (get_or (replicate n no_pick) k no_pick)
 zeros zero k = record { reference = omega arith; low = omega signed; high = omega signed; dir = omega arith }
@@ -110,8 +112,41 @@ zeros (suc n) (suc k) = zeros n k
 
 pub started_fine : (present : List Bool) (n : ℕ) → Fine (started present n)
 unfolding started
-started_fine present n =
-    span_in Fine (put_taken present) n (λ k q l f. record { few = f.few; each = f.each }) _ (record { few = omega arith; each = λ k. zeros 4 k })
+started_fine present n = record { few = omega arith; each = λ k. zeros 4 k }
+
+-- an entry of what is taken
+both_at : (f : ℕ → Bool) (d : Bool) (k : ℕ) → k < 14 → get_or (both f) k d ≡ f (k / 2)
+both_at f d zero h = refl
+both_at f d (suc zero) h = refl
+both_at f d (suc (suc zero)) h = refl
+both_at f d (suc (suc (suc zero))) h = refl
+both_at f d (suc (suc (suc (suc zero)))) h = refl
+both_at f d (suc (suc (suc (suc (suc zero))))) h = refl
+both_at f d (suc (suc (suc (suc (suc (suc zero)))))) h = refl
+both_at f d (suc (suc (suc (suc (suc (suc (suc zero))))))) h = refl
+both_at f d (suc (suc (suc (suc (suc (suc (suc (suc zero)))))))) h = refl
+both_at f d (suc (suc (suc (suc (suc (suc (suc (suc (suc zero))))))))) h = refl
+both_at f d (suc (suc (suc (suc (suc (suc (suc (suc (suc (suc zero)))))))))) h = refl
+both_at f d (suc (suc (suc (suc (suc (suc (suc (suc (suc (suc (suc zero))))))))))) h = refl
+both_at f d (suc (suc (suc (suc (suc (suc (suc (suc (suc (suc (suc (suc zero)))))))))))) h = refl
+both_at f d (suc (suc (suc (suc (suc (suc (suc (suc (suc (suc (suc (suc (suc zero))))))))))))) h = refl
+both_at f d (suc (suc (suc (suc (suc (suc (suc (suc (suc (suc (suc (suc (suc (suc k)))))))))))))) h = absurd (omega arith)
+
+-- fourteen entries that are f's
+pub both_is : (f : ℕ → Bool) (xs : List Bool) → length xs ≡ 14 → ((k : ℕ) → k < 14 → get_or xs k false ≡ f (k / 2)) → xs ≡ both f
+both_is f xs e h = ext_get_or false xs (both f) e (λ k l. let b : k < 14 = omega (arith, e) in h k b ∙ sym (both_at f false k b))
+
+-- an entry of four sources
+four_at : (f : ℕ → Source) (d : Source) (k : ℕ) → k < 4 → get_or (f 0 ∷ f 1 ∷ f 2 ∷ f 3 ∷ []) k d ≡ f k
+four_at f d zero h = refl
+four_at f d (suc zero) h = refl
+four_at f d (suc (suc zero)) h = refl
+four_at f d (suc (suc (suc zero))) h = refl
+four_at f d (suc (suc (suc (suc k)))) h = absurd (omega arith)
+
+-- four sources that are f's
+pub four_is : (f : ℕ → Source) (xs : List Source) → length xs ≡ 4 → ((k : ℕ) → k < 4 → get_or xs k no_source ≡ f k) → xs ≡ f 0 ∷ f 1 ∷ f 2 ∷ f 3 ∷ []
+four_is f xs e h = ext_get_or no_source xs (f 0 ∷ f 1 ∷ f 2 ∷ f 3 ∷ []) e (λ k l. let b : k < 4 = omega (arith, e) in h k b ∙ sym (four_at f no_source k b))
 
 put_fine : (h : Pocs) (s t : Slot) (p : Picks) → s.0 < 7 → t.0 < 7 → p.count < 4 → Fine p → Fine (tip_put h s t p)
 put_fine h s t p l m c f =

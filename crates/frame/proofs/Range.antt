@@ -1,7 +1,6 @@
 -- Each source of the record lies in the ranges that the loader tests. Assumes nothing.
-use Rattle.std.proofs.Common.{◌≡◌, refl, Bool, true, false, cond, List, Option, Some, None, IfSome, ◌<◌, ◌+◌, ℕ, zero, suc, ◌≤◌, arith, ltb, eqb, ℤ, pos, negsuc, neg_ℤ, nat_abs, ◌-ℤ◌, ◌≤ℤ◌, get_or, replicate, ltb-false}
+use Rattle.std.proofs.Common.{◌≡◌, refl, Bool, true, false, cond, List, Option, Some, None, IfSome, [], ◌∷◌, ◌<◌, ◌+◌, ℕ, zero, suc, ◌≤◌, arith, ltb, eqb, ℤ, pos, negsuc, neg_ℤ, nat_abs, ◌-ℤ◌, ◌≤ℤ◌, get_or, replicate, ltb-false}
 use Rattle.loops.specs.Seven.{seven}
-use Rattle.loops.proofs.Keeps.{set_has, span_in}
 use Rattle.loops.proofs.Seven.{seven_all}
 use Rattle.intops.proofs.Signed.{signed, ud, ud_neg}
 use Rattle.levels.specs.declared.OrderHint.{OrderHint}
@@ -14,7 +13,7 @@ use Rattle.entry.specs.Entry.{found, or_none, found_slot, size, same_sign, ratio
 use Rattle.entry.proofs.Laws.{found_low, diff_le, size_le}
 use Rattle.frame.specs.declared.Sources.{Sources}
 use Rattle.frame.specs.declared.Header.{Header}
-use Rattle.frame.specs.Frame.{Pickable, Fine, SourceInRange, no_pick, no_source, mask_of, no_sources, put_source, filled, sources_of, picked, slot_of, refusal_of}
+use Rattle.frame.specs.Frame.{Pickable, Fine, SourceInRange, no_pick, no_source, no_sources, source_at, filled, sources_of, picked, slot_of, refusal_of}
 use Rattle.frame.proofs.Laws.{picked_fine, slot_small, accepted}
 
 ratio_go : (n : ℕ) (t : Bool) → n ≤ 507904 → nat_abs (cond t (pos n) (neg_ℤ (pos n))) ≤ 507904
@@ -102,10 +101,18 @@ nones (suc n) (suc k) = nones n k
 
 filled_in : (h : Pocs) (p : Picks) → Fine p → AllIn (filled h p)
 unfolding filled
-filled_in h p f =
-    span_in AllIn (put_source h p) p.count
-    (λ i s l a. (a.0, λ k. set_has SourceInRange s.mfmv i k (source_of h (get_or p.list i no_pick)) no_source (source_in h _ (f.each i)) (a.1 k)))
-    (no_sources p.count (mask_of p.taken)) (f.few, λ k. nones 4 k)
+filled_in h p f = (f.few, each)
+  where
+    go : (i : ℕ) (t : Bool) → SourceInRange (cond t (source_of h (get_or p.list i no_pick)) no_source)
+    go i true = source_in h _ (f.each i)
+    go i false = none_in
+
+    each : (k : ℕ) → SourceInRange (get_or (source_at h p 0 ∷ source_at h p 1 ∷ source_at h p 2 ∷ source_at h p 3 ∷ []) k no_source)
+    each zero = go 0 (ltb 0 p.count)
+    each (suc zero) = go 1 (ltb 1 p.count)
+    each (suc (suc zero)) = go 2 (ltb 2 p.count)
+    each (suc (suc (suc zero))) = go 3 (ltb 3 p.count)
+    each (suc (suc (suc (suc k)))) = none_in
 
 -- THE THEOREM: what an accepted frame's record says of its sources passes the loader's test
 pub sources_in : (f : Header) → refusal_of f ≡ 0 → AllIn (sources_of f)

@@ -1,8 +1,7 @@
 -- The setup record (01 "Setup record"; init_frame). Assumes nothing.
-use Rattle.std.specs.Prelude.{ℕ, zero, suc, ◌+◌, ◌*◌, ◌≤◌, ◌<◌, Bool, true, false, not, cond, ◌&&◌, ◌||◌, ⊤, Result, Ok, Err, List, ltb, leb, eqb, ℤ, pos, negsuc, nat_abs, ◌≤ℤ◌, get_or, set, replicate}
+use Rattle.std.specs.Prelude.{ℕ, zero, suc, ◌+◌, ◌*◌, ◌≤◌, ◌<◌, Bool, true, false, not, cond, ◌&&◌, ◌||◌, ⊤, Result, Ok, Err, List, [], ◌∷◌, ltb, leb, eqb, ℤ, pos, negsuc, nat_abs, ◌≤ℤ◌, get_or, replicate}
 use Rattle.std.specs.Int.Signed.{lt_z}
 use mir.Val.{bool_byte}
-use Rattle.loops.specs.Over.{span}
 use Rattle.loops.specs.Seven.{seven}
 use Rattle.intops.specs.Choice.{pick_z}
 use Rattle.levels.specs.declared.Slot.{Slot}
@@ -34,14 +33,17 @@ leading sign order (suc k) l = cond (get_or sign (slot_at order l) false) (leadi
 abbrev pub no_pick : MfmvRef
 no_pick = record { reference = slot 0; tgt = pos 0; dir = 0 }
 
--- a slot in use with no plane is taken in both directions: 2 i + direction
-abbrev pub put_taken : List Bool → ℕ → Picks → Picks
-put_taken present i p =
-    record { list = p.list; count = p.count; taken = set (set p.taken (2 * i) (not (get_or present i false))) (2 * i + 1) (not (get_or present i false)) }
+-- a slot in use with no plane
+abbrev pub no_plane : List Bool → ℕ → ℕ → Bool
+no_plane present n i = ltb i n && not (get_or present i false)
 
--- no source yet
+-- f of each slot, for both directions: at 2 i + direction
+abbrev pub both : (ℕ → Bool) → List Bool
+both f = f 0 ∷ f 0 ∷ f 1 ∷ f 1 ∷ f 2 ∷ f 2 ∷ f 3 ∷ f 3 ∷ f 4 ∷ f 4 ∷ f 5 ∷ f 5 ∷ f 6 ∷ f 6 ∷ []
+
+-- no source yet; a slot in use with no plane is taken in both directions
 unfoldable pub started : List Bool → ℕ → Picks
-started present n = span (put_taken present) 0 n (record { list = replicate 4 no_pick; count = 0; taken = replicate 14 false })
+started present n = record { list = replicate 4 no_pick; count = 0; taken = both (no_plane present n) }
 
 -- slot s with the target t: direction 1 where s's hint is before t's, else 0
 abbrev pub tip_pick : Pocs → Slot → Slot → MfmvRef
@@ -112,12 +114,13 @@ used t k = bool_byte (get_or t (2 * k) false || get_or t (2 * k + 1) false)
 unfoldable pub mask_of : List Bool → ℕ
 mask_of t = used t 0 + 2 * used t 1 + 4 * used t 2 + 8 * used t 3 + 16 * used t 4 + 32 * used t 5 + 64 * used t 6
 
--- the entries of each source; entries not written are zero
-abbrev pub put_source : Pocs → Picks → ℕ → Sources → Sources
-put_source h p i s = record { mfmv = set s.mfmv i (source_of h (get_or p.list i no_pick)); n_mfmvs = s.n_mfmvs; mfmv_mask = s.mfmv_mask }
+-- the source at place i: of a source that is picked its entries, zeros past those
+abbrev pub source_at : Pocs → Picks → ℕ → Source
+source_at h p i = cond (ltb i p.count) (source_of h (get_or p.list i no_pick)) no_source
 
+-- the sources that are picked, and the mask of used slots
 unfoldable pub filled : Pocs → Picks → Sources
-filled h p = span (put_source h p) 0 p.count (no_sources p.count (mask_of p.taken))
+filled h p = record { mfmv = source_at h p 0 ∷ source_at h p 1 ∷ source_at h p 2 ∷ source_at h p 3 ∷ []; n_mfmvs = p.count; mfmv_mask = mask_of p.taken }
 
 -- a TIP slot as a slot; one out of range is never looked at
 unfoldable pub slot_of : ℤ → Slot

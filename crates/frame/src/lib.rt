@@ -4,11 +4,12 @@
 ghost use Rattle.std.specs.Prelude.{◌≡◌, ◌≤◌, ◌<◌, ◌||◌};
 ghost use Rattle.picks.specs.Picks.{Slots};
 ghost use Rattle.refs.specs.Refs.{signs, diffs};
-ghost use Rattle.frame.specs.Frame.{leading, started, tip_pick, tip_add, with_tip, picked, Fine, filled, slot_of, sources_of, tip_diff, in_byte, tip_of, looks_at_tip, not_in_use, bad_tip, bad_size, bad_step, bad_superblock, refused_if, frame_of, zero_frame, no_source, no_sources, used, mask_of, says_setup, setup_of};
+ghost use Rattle.frame.specs.Frame.{leading, started, tip_pick, tip_add, with_tip, picked, Fine, source_at, filled, slot_of, sources_of, tip_diff, in_byte, tip_of, looks_at_tip, not_in_use, bad_tip, bad_size, bad_step, bad_superblock, refused_if, frame_of, zero_frame, no_source, no_sources, used, mask_of, says_setup, setup_of};
 
 use entry::Source;
 use levels::{Refusal, Slot};
 use picks::{FrameHints, Hints, MfmvRef, Picks, Pocs};
+use std::array;
 
 /// The sources, and the mask of the slots that are used.
 #[repr(C)]
@@ -89,25 +90,19 @@ fn first_later(sign: &[bool; 7], order: &[Slot; 7], n: usize) -> usize
 }
 
 // No source yet, and the slots with no plane are taken.
-#[tactic(auto, using(loops::proofs::Turns::span_turn, loops::proofs::Turns::span_end), unfolding(crate::specs::Frame::started))]
 fn start(present: &[bool; 7], n: usize) -> Picks
-    requires { n ≤ 7 }
     ensures { result ≡ started present.now n }
 {
-    let mut p = Picks {
+    let taken: [bool; 14] = array::from_fn(|k| k / 2 < n && !present[k / 2]);
+    Picks {
         list: [MfmvRef {
             reference: Slot(0),
             tgt: 0,
             dir: 0,
         }; 4],
         count: 0,
-        taken: [false; 14],
-    };
-    for i in 0..n {
-        p.taken[2 * i] = !present[i];
-        p.taken[2 * i + 1] = !present[i];
+        taken,
     }
-    p
 }
 
 // The source s with the target t.
@@ -235,16 +230,36 @@ fn used_mask(taken: &[bool; 14]) -> u8
         + 64 * used_bit(taken, 6)
 }
 
-#[tactic(auto, using(loops::proofs::Turns::span_turn, loops::proofs::Turns::span_end), unfolding(crate::specs::Frame::filled))]
+// The source at place i, zeros past those that are picked.
+fn source_at(h: &Hints, p: &Picks, i: usize) -> Source
+    requires fine { Fine p.now }
+    requires place { i < 4 }
+    ensures { result ≡ source_at h.now.pocs p.now i }
+{
+    if i < p.count {
+        entry::source_of(h, &p.list[i])
+    } else {
+        no_source()
+    }
+}
+
+// The sources that are picked, with their entries.
 fn fill_sources(h: &Hints, p: &Picks) -> Sources
     requires { Fine p.now }
     ensures { result ≡ filled h.now.pocs p.now }
 {
-    let mut out = no_sources(p.count, used_mask(&p.taken));
-    for i in 0..p.count {
-        out.mfmv[i] = entry::source_of(h, &p.list[i]);
+    let mfmv: [Source; 4] = array::from_fn(
+        |i|
+            requires fine { Fine p.now }
+            requires place { i < 4 }
+            ensures { result ≡ source_at h.entry.now.pocs p.entry.now i }
+        { source_at(h, p, i) },
+    );
+    Sources {
+        mfmv,
+        n_mfmvs: p.count,
+        mfmv_mask: used_mask(&p.taken),
     }
-    out
 }
 
 // A TIP slot as a slot; one out of range is never looked at.

@@ -1,8 +1,13 @@
 -- `frame::start` meets its contract. Assumes nothing.
-use Rattle.std.proofs.Common.{refl}
-use Rattle.loops.proofs.Turns.{turned}
-use Rattle.frame.specs.Frame.{put_taken}
+use Rattle.std.proofs.Common.{◌≡◌, rules, ◌/◌, false}
+use borrow.Author.Tests.{tests}
+use Rattle.loops.proofs.Seven.{made}
+use Rattle.frame.specs.Frame.{no_plane, started}
+use Rattle.frame.proofs.Laws.{both_is}
 use Rattle.frame.proofs.start.Goals as goal
 
-pub loop-i-preserved : goal.loop-i-preserved
-loop-i-preserved c = let l = c.loop-i in let a = c.args in turned (put_taken a.present.now) a.n l.i l.p _ _ c.loop-i-test.true refl l.invariant
+pub returns : goal.returns
+unfolding started
+returns c =
+    let f = no_plane c.args.present.now c.args.n in let r = c.from_fn-taken.ensures.items in
+    rw (both_is f c.from_fn-taken.result r.long (made _ (λ i y. y ≡ f (i / 2)) _ 14 (λ i y q l k. search (rules, tests)) _ r false))
