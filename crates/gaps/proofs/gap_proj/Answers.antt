@@ -35,4 +35,4 @@ returns-clause-stored c =
     let r = beside_of (c.has_right-right.result && low) n (field_at t (a.at.y + 2) (a.at.x + 2)) l in
     gap_on t a.t.now.sound a.at.start a.at.end a.at.y a.at.x c.requires.sampled c.requires.step l i c.field_at-place.ensures m.0
     c.in-Some.v p q r c.has_right-right.result low c.put_gaps_proj.new.field (sym m.1) c.has_right-right.ensures c.has_below-below.ensures refl refl refl
-    (c.put_gaps_proj.ensures.stored c.in-Some.v p q r e.mean f.mean (c.gap_mean.ensures ∙ ap gap_of (g.sum ∙ ap (added r) (f.sum ∙ ap (added q) (e.sum ∙ ap (added p) c.one.ensures.0)))))
+    (c.put_gaps_proj.ensures.stored c.in-Some.v p q r e.mean f.mean (c.gap_mean.ensures ∙ ap gap_of (g.sum ∙ ap (added r) (f.sum ∙ ap (added q) (e.sum ∙ ap (added p) c.one.ensures.sum)))))
