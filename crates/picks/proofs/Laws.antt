@@ -1,5 +1,6 @@
 -- What is picked is a slot. Assumes nothing.
-use Rattle.std.proofs.Common.{Bool, true, false, cond, ℕ, ◌+◌, ◌-◌, ◌<◌, List, Option, Some, None, leb, ltb, get_or}
+use Rattle.std.proofs.lemmas.List.{length_push}
+use Rattle.std.proofs.Common.{◌≡◌, refl, ap, sym, ◌∙◌, suc, arith, length, take, [], ◌∷◌, ◌++◌, Bool, true, false, cond, ℕ, ◌+◌, ◌-◌, ◌<◌, List, Option, Some, None, leb, ltb, get_or}
 use Rattle.levels.specs.declared.Slot.{Slot}
 use Rattle.levels.specs.Slots.{slot}
 use Rattle.picks.specs.Picks.{Valid, Slots, with_side, nth_earlier, nth_later}
@@ -26,3 +27,21 @@ earlier_valid xs f k v = none_go (get_or xs (f - k) (slot 0)) (ltb f k) (v (f - 
 pub later_valid : (xs : List Slot) (f m n : ℕ) → Slots xs → Valid (nth_later xs f m n)
 unfolding nth_later
 later_valid xs f m n v = none_go (get_or xs (f + n) (slot 0)) (leb m (f + n)) (v (f + n))
+
+-- ---- a list gone over from its end
+
+front_go : (xs ys : List Slot) (s : Slot) → ys ++ s ∷ [] ≡ take (suc (length ys)) xs → (ys ≡ take (length ys) xs) × (s ≡ get_or xs (length ys) (slot 0))
+front_go [] [] s e = cc
+front_go [] (y ∷ ys) s e = cc
+front_go (x ∷ xs) [] s e = (refl, cc)
+front_go (x ∷ xs) (y ∷ ys) s e =
+    let t : ys ++ s ∷ [] ≡ take (suc (length ys)) xs = cc in let h : y ≡ x = cc in
+    let g = front_go xs ys s t in
+    (rw h (ap (λ zs. x ∷ zs) g.0), g.1)
+
+-- of a front zs of xs the last is taken off, and a front is left
+pub front_less : (xs ys zs : List Slot) (s : Slot) → zs ≡ ys ++ s ∷ [] → zs ≡ take (length zs) xs → (length zs ≡ length ys + 1) × (ys ≡ take (length ys) xs) × (s ≡ get_or xs (length ys) (slot 0))
+front_less xs ys zs s e f =
+    let n : length zs ≡ suc (length ys) = omega (arith, ap length e, length_push ys s) in
+    let g = front_go xs ys s (sym e ∙ f ∙ ap (λ (k : ℕ). take k xs) n) in
+    (omega arith, g.0, g.1)

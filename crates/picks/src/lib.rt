@@ -296,8 +296,8 @@ impl Picks {
         requires slots { Slots list.now }
         ensures { self.new ≡ rest diffs.now list.now count self.old }
     {
-        for n in 0..count {
-            self.both_ways(diffs, list[count - 1 - n]);
+        for s in list[..count].iter().rev() {
+            self.both_ways(diffs, *s);
         }
     }
 }

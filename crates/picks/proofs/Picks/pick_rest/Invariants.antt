@@ -1,8 +1,11 @@
 -- `picks::Picks::pick_rest` meets its contract. Assumes nothing.
-use Rattle.std.proofs.Common.{◌≡◌}
+use Rattle.std.proofs.Common.{◌≡◌, ◌-◌, ◌≤◌, length, take}
 use Rattle.loops.specs.Over.{span}
 use Rattle.picks.specs.Picks.{from_end, rest}
 use Rattle.picks.proofs.Picks.pick_rest.Given as goal
 
-abbrev pub invariant-loop-n : goal.invariant-loop-n
-invariant-loop-n l = span (from_end l.diffs l.list l.count) l.n l.count l.self ≡ rest l.diffs l.list l.count l.initial.self
+-- what is left to go over is the front of the list
+abbrev pub invariant-loop-s : goal.invariant-loop-s
+invariant-loop-s l =
+    let left = l.s-iterator.iter.rest.now in
+    (left ≡ take (length left) l.list) × (length left ≤ l.count) × (span (from_end l.diffs l.list l.count) (l.count - length left) l.count l.self ≡ rest l.diffs l.list l.count l.initial.self)
