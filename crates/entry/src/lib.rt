@@ -8,7 +8,7 @@ use levels::{OrderHint, Slot};
 use picks::{Hints, MfmvRef, Saved};
 use std::array;
 
-/// The first of the first n slots with the hint x. From the back, so that no branch depends on where it is.
+/// The first of the first n slots with the hint x. From the back, so that no branch depends on where it is: `position` would leave at the first.
 #[tactic(auto, using(crate::proofs::Laws::found_here, crate::proofs::Laws::found_next, crate::proofs::Laws::found_end))]
 pub fn find_hint(hints: &[OrderHint; 7], x: OrderHint, n: usize) -> Option<usize>
     requires { n ≤ 7 }

@@ -1,6 +1,6 @@
 -- The leading run; that what is picked are sources in range; the straight lines of calls. Assumes nothing.
-use Rattle.std.proofs.Common.{◌≡◌, refl, sym, ◌∙◌, length, [], ◌∷◌, ◌/◌, Bool, true, false, cond, ◌&&◌, ◌||◌, Option, Some, None, Ok, Err, List, ℕ, zero, suc, ◌+◌, ◌*◌, ◌-◌, ◌<◌, ◌≤◌, ltb, leb, ℤ, pos, negsuc, nat_abs, leb-false, ne_eqb, ltb-false, arith, get_or, replicate}
-use Rattle.std.proofs.lemmas.List.{ext_get_or}
+use Rattle.std.proofs.Common.{◌≡◌, refl, sym, ◌∙◌, length, take, drop, [], ◌∷◌, ◌/◌, Bool, true, false, cond, ◌&&◌, ◌||◌, Option, Some, None, Ok, Err, List, ℕ, zero, suc, ◌+◌, ◌*◌, ◌-◌, ◌<◌, ◌≤◌, ltb, leb, ℤ, pos, negsuc, nat_abs, leb-false, ne_eqb, ltb-false, arith, get_or, replicate}
+use Rattle.std.proofs.lemmas.List.{ext_get_or, drop_more}
 use Rattle.std.specs.Bool.{⊤}
 use lib.Signed.{le_z, lt_z}
 use Rattle.env.specs.Hints.{hint_diff}
@@ -29,22 +29,30 @@ use Rattle.picks.specs.Picks.{Valid, Slots, pushed, offered, with_side, nearer_e
 use Rattle.refs.specs.Refs.{links_of, diffs, signs}
 use Rattle.frame.specs.Frame.{Fine, Pickable, leading, no_pick, both, no_source, started, tip_pick, tip_put, tip_add, with_tip, picked, tip_diff, in_byte, tip_with, tip_of, slot_of, refusal_of, refused_if, frame_of, zero_frame, setup_of}
 
-module _ (sg : List Bool) (xs : List Slot) (n l : ℕ) where
-  pub lead_here : l < n → get_or sg (slot_at xs l) false ≡ false → leading sg xs (n - l) l ≡ l
-  unfolding leading
-  lead_here h e =
-      let k : n - l ≡ suc (n - (l + 1)) = omega arith in
-      rw k (simp e)
+-- how many slots at the head of a list have their sign set
+unfoldable pub lead : List Bool → List Slot → ℕ
+lead sg [] = 0
+lead sg (s ∷ ss) = cond (get_or sg s.0 false) (lead sg ss + 1) 0
 
-  pub lead_next : l < n → get_or sg (slot_at xs l) false ≡ true → leading sg xs (n - l) l ≡ leading sg xs (n - (l + 1)) (l + 1)
-  unfolding leading
-  lead_next h e =
-      let k : n - l ≡ suc (n - (l + 1)) = omega arith in
-      rw k (simp e)
+pub lead_hit : (sg : List Bool) (s : Slot) (ss : List Slot) → get_or sg s.0 false ≡ false → lead sg (s ∷ ss) ≡ 0
+unfolding lead
+lead_hit sg s ss e = rw e
 
-  pub lead_end : n ≤ l → leading sg xs (n - l) l ≡ l
-  unfolding leading
-  lead_end h = let k : n - l ≡ 0 = omega arith in rw k
+pub lead_miss : (sg : List Bool) (s : Slot) (ss : List Slot) → get_or sg s.0 false ≡ true → lead sg (s ∷ ss) ≡ lead sg ss + 1
+unfolding lead
+lead_miss sg s ss e = rw e
+
+more : (t : Bool) (a b l : ℕ) → a ≡ b + (l + 1) → cond t a l ≡ cond t (b + 1) 0 + l
+more true a b l e = omega arith
+more false a b l e = omega arith
+
+-- the run from l on, of the slots that stand there
+pub lead_is : (sg : List Bool) (xs : List Slot) (k l : ℕ) → l + k ≤ length xs → leading sg xs k l ≡ lead sg (take k (drop l xs)) + l
+unfolding leading lead
+lead_is sg xs zero l h = omega arith
+lead_is sg xs (suc k) l h =
+    let i : l < length xs = omega arith in
+    rw (drop_more xs l (slot 0) i) (more (get_or sg (slot_at xs l) false) _ _ l (lead_is sg xs k (l + 1) (omega arith)))
 
 lead_go : (t : Bool) (a l k : ℕ) → a ≤ (l + 1) + k → cond t a l ≤ l + suc k
 lead_go true a l k h = omega arith

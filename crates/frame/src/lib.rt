@@ -74,19 +74,18 @@ pub struct Frame {
 }
 
 // How many of the sorted slots lead with their sign set.
-#[tactic(auto, using(crate::proofs::Laws::lead_here, crate::proofs::Laws::lead_next, crate::proofs::Laws::lead_end))]
 fn first_later(sign: &[bool; 7], order: &[Slot; 7], n: usize) -> usize
     requires count { n ≤ 7 }
     requires slots { Slots order.now }
     ensures value { result ≡ leading sign.now order.now n 0 }
     ensures within { result ≤ n }
 {
-    for l in 0..n {
-        if !sign[order[l].index()] {
-            return l;
-        }
-    }
-    n
+    let later = order[..n].iter().position(
+        |s|
+            requires { s.now.0 < 7 }
+        { !sign[s.index()] },
+    );
+    later.unwrap_or(n)
 }
 
 // No source yet, and the slots with no plane are taken.

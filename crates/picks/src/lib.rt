@@ -125,6 +125,7 @@ impl Hints {
         requires { s.0 < 7 }
         ensures { result ≡ closest self.now.pocs s.0 late }
     {
+        // A reference's number is what `nearer` takes, and b goes from one to the next: `fold` would say the same with a closure.
         let mut b: u32 = 255;
         for n in 0..7 {
             b = self.nearer(s, late, n, b);
@@ -149,6 +150,7 @@ impl Hints {
         requires { s.0 < 7 }
         ensures { result ≡ some_on_side self.now.pocs s.0 late }
     {
+        // Each reference is looked at, so that no branch depends on which is on the side: `any` would leave at the first.
         let mut b = false;
         for n in 0..7 {
             b |= self.is_on_side(s, late, n);
@@ -196,6 +198,8 @@ pub struct MfmvRef {
 }
 
 /// The sources so far, and which of a slot's two directions are taken: 2 * slot + direction.
+// Four entries and their number, as the setup's record has them, and no `ArrayVec`: of that a clause sees the items alone, so the definitions, which
+// make picks (`started`, `pushed`), would need a record of their own beside this one.
 #[derive(Clone, Copy)]
 pub struct Picks {
     pub list: [MfmvRef; 4],

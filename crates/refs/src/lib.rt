@@ -126,6 +126,7 @@ pub fn flip_row(h: &FrameHints, sign: &[bool; 7], i: usize) -> u64
     ensures { result ≡ flip_row h.now.hints.pocs sign.now i }
 {
     let hints = &h.hints;
+    // A slot's number is its bit's place, here and in `flip_mask`: `fold` would say the same with a closure.
     let mut r: u64 = 0;
     for n in 0..hints.pocs.n_refs {
         let f = flip(
