@@ -188,6 +188,11 @@ module _ (t : Geometry) (delta : ℤ) where
     pub on : sx % t.block ≡ 0
     pub left : (s : Store) → span_by t.block column_turn sx t.right (stored s l) ≡ span_by t.block column_turn t.left t.right (stored s m)
 
+  -- a column of blocks has been smoothed
+  pub record ColumnDone (sx xend : ℕ) (l m : Field) : Type 0 where
+    pub like : IsSameField l m
+    pub stored : (s : Store) → stored s l ≡ span_by t.block (square_turn sx xend) t.top t.bottom (stored s m)
+
   module _ (k : Sound t) where
     pub column_holds : (l : Field) → AtColumn t.left l l
     column_holds l = record { like = same_field l; from = omega arith; on = k.start; left = λ s. refl }
@@ -205,16 +210,17 @@ module _ (t : Geometry) (delta : ℤ) where
           left = λ s. turned_by (square_turn sx xend) t.block t.bottom sy (stored s l) (stored s n) _ (block_some t k) h (e s) (a.left s);
         }
 
-    pub column_again : (sx xend sy : ℕ) (l m n : Field) → sx < t.right → xend ≡ min t.right (sx + t.block) → t.bottom ≤ sy → AtColumn sx l m → AtSquare sx xend sy n l
-        → AtColumn (sx + t.block) n m
-    column_again sx xend sy l m n h e g a b =
+    pub squares_done : (sx xend sy : ℕ) (l m : Field) → t.bottom ≤ sy → AtSquare sx xend sy l m → ColumnDone sx xend l m
+    squares_done sx xend sy l m h a =
+        record { like = a.like; stored = λ s. ended_by (square_turn sx xend) t.block t.bottom sy (stored s l) _ (block_some t k) h (a.left s) }
+
+    pub column_again : (sx xend : ℕ) (l m n : Field) → sx < t.right → xend ≡ min t.right (sx + t.block) → AtColumn sx l m → ColumnDone sx xend n l → AtColumn (sx + t.block) n m
+    column_again sx xend l m n h e a d =
         record {
-          like = same_after b.like a.like;
+          like = same_after d.like a.like;
           from = omega (arith, a.from);
           on = add-mod_right sx t.block ∙ a.on;
-          left = λ s.
-              turned_by column_turn t.block t.right sx (stored s l) (stored s n) _ (block_some t k) h
-              (ended_by (square_turn sx (min t.right (sx + t.block))) t.block t.bottom sy (stored s n) _ (block_some t k) g (rw e at (b.left s))) (a.left s);
+          left = λ s. turned_by column_turn t.block t.right sx (stored s l) (stored s n) _ (block_some t k) h (rw e at (d.stored s)) (a.left s);
         }
 
     pub smoothen_done : (sx : ℕ) (l m : Field) → t.right ≤ sx → AtColumn sx l m → (s : Store) → stored s l ≡ run (owns t) (smoothen t delta) (stored s m)

@@ -121,19 +121,16 @@ fn smooth_block(field: &mut Field<'_>, t: &Tile, delta: i8, start: usize, end: u
 
 /// Smooths block by block, each from its own originals: a sampled cell becomes the mean of itself
 /// and its neighbours of the block.
+#[tactic(auto, using(tile::proofs::Places::block_some))]
 pub fn smoothen(field: &mut Field<'_>, t: &Tile, delta: i8)
     requires held { IsHeld (geometry t.now) field.old }
     ensures same_borrow { IsSameField field.new field.old }
     ensures stored { (s : Store) → stored s field.new ≡ run (owns (geometry t.now)) (smoothen (geometry t.now) delta) (stored s field.old) }
 {
-    let mut start = t.left;
-    while start < t.right {
+    for start in (t.left..t.right).step_by(t.block) {
         let end = t.right.min(start + t.block);
-        let mut top = t.top;
-        while top < t.bottom {
+        for top in (t.top..t.bottom).step_by(t.block) {
             smooth_block(field, t, delta, start, end, top);
-            top += t.block;
         }
-        start += t.block;
     }
 }
