@@ -1,5 +1,5 @@
 -- The rows of emptying and of the copy from below, as code has them. Assumes nothing.
-use Rattle.std.proofs.Common.{◌≡◌, refl, ap, ◌∙◌, ℕ, ◌+◌, ◌%◌, ◌≤◌, arith, pos}
+use Rattle.std.proofs.Common.{◌≡◌, refl, ◌∙◌, ℕ, ◌+◌, ◌%◌, ◌≤◌, arith, pos}
 use Rattle.levels.specs.Vector.{empty}
 use Rattle.loops.proofs.Turns.{row_within}
 use Rattle.store.specs.Lent.{filled}

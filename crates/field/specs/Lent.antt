@@ -1,9 +1,10 @@
 -- What contracts say of the lent field, alone and with the other parts of a store. Assumes nothing.
-use Rattle.std.specs.Prelude.{◌≡◌, ℕ, ◌<◌, ℤ, length}
+use Rattle.std.specs.Prelude.{◌≡◌, ℕ, ◌+◌, ◌≤◌, ◌<◌, ℤ, length}
 use Rattle.levels.specs.declared.Mv.{Mv}
 use Rattle.store.specs.declared.Pairs.{Pairs}
 use Rattle.store.specs.Store.{Store, with_field, pack}
 use Rattle.tile.specs.Geometry.{Geometry}
+use Rattle.tile.specs.Layout.{row_cells}
 use Rattle.tile.specs.Sound.{FieldHeld}
 use Rattle.field.specs.declared.Field.{Field}
 use Rattle.field.specs.Code.{cell_in}
@@ -24,13 +25,23 @@ store_of f t m = pack f.y.now f.x.now f.reference.now t.y.now t.x.now m.y.now m.
 abbrev pub vector_in : Field → ℕ → Mv
 vector_in f i = cell_in f.y.now f.x.now i
 
+-- place i is in the lists of the vectors
+pub record IsVectorWithin (f : Field) (i : ℕ) : Type 0 where
+  pub y : i < length f.y.now
+  pub x : i < length f.x.now
+
 -- place i is in the three lists
 pub record IsWithin (f : Field) (i : ℕ) : Type 0 where
   pub y : i < length f.y.now
   pub x : i < length f.x.now
   pub reference : i < length f.reference.now
 
--- the lists reach to the end of the superblock row
+-- the lists of the vectors reach to the end of the superblock row
+pub record AreVectorsHeld (t : Geometry) (f : Field) : Type 0 where
+  pub y : t.offset + row_cells t ≤ length f.y.now
+  pub x : t.offset + row_cells t ≤ length f.x.now
+
+-- the three lists do
 abbrev pub IsHeld : Geometry → Field → Type 0
 IsHeld t f = FieldHeld t f.y.now f.x.now f.reference.now
 

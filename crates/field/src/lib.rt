@@ -12,13 +12,15 @@ ghost use Rattle.tile.specs.Sound.{InTile};
 ghost use Rattle.tile.specs.Tiles.{geometry};
 ghost use Rattle.field.specs.Copied.{copied};
 ghost use Rattle.field.specs.Field.{as_byte, projected, copy_above, empty_field, project_tip, tip_projection};
-ghost use Rattle.field.specs.Lent.{IsWithin, IsHeld, IsSameField, vector_in, stored, with_vectors};
+ghost use Rattle.field.specs.Lent.{IsVectorWithin, IsWithin, IsHeld, IsSameField, vector_in, stored, with_vectors};
 
 use levels::Mv;
 use tile::{Pass, SampledCell, Tile, walk};
 
 /// The field's lists as a load is lent them (rp_proj): a vector for each cell, and the distance
 /// to its reference.
+// No ghost field says how long the lists are: a fact beside a `&mut` in the type has to be rewritten along it in each of several calls in a row, so it is asked for (`IsHeld`).
+// Field, trajectories and maps are passed as three parameters: a struct that holds them by value keeps at its return only the lists' lengths, one that holds references takes a lifetime for each of them and of their lists.
 #[derive(Drop)]
 pub struct Field<'a> {
     /// The vectors' y.
@@ -32,7 +34,7 @@ pub struct Field<'a> {
 impl<'a> Field<'a> {
     /// The vector at a place, which may be empty.
     pub fn vector(&self, at: usize) -> Mv
-        requires { IsWithin self.now at }
+        requires { IsVectorWithin self.now at }
         ensures { result ≡ vector_in self.now at }
     {
         Mv {
@@ -43,7 +45,7 @@ impl<'a> Field<'a> {
 
     /// The vector at a place, none where it is empty.
     pub fn cell(&self, at: usize) -> Option<Mv>
-        requires { IsWithin self.now at }
+        requires { IsVectorWithin self.now at }
         ensures { result ≡ held (vector_in self.now at) }
     {
         let v = self.vector(at);

@@ -8,7 +8,8 @@ ghost use Rattle.store.specs.Store.{Store};
 ghost use Rattle.store.specs.Program.{run};
 ghost use Rattle.tile.specs.Layout.{field_at};
 ghost use Rattle.tile.specs.Owner.{owns};
-ghost use Rattle.tile.specs.Sound.{InTile, Sample, Gaps};
+ghost use Rattle.tile.specs.Sound.{InTile, Gaps};
+ghost use Rattle.tile.specs.Sampled.{IsSampled};
 ghost use Rattle.tile.specs.Tiles.{geometry};
 ghost use Rattle.field.specs.Field.{put_gaps_proj, gap_proj, fill_gap_proj};
 ghost use Rattle.field.specs.Lent.{IsHeld, IsSameField, stored};
@@ -28,6 +29,7 @@ struct Around {
 
 // A sampled neighbour, projected from its own distance to another's: its mean with v, and added to s. Where it is empty, or
 // there is none, these are v and s themselves: chosen by the branch that is there for the projection.
+// Not one with traj's `beside`, which hands on the vector that it reads, of other lists at another place: here it is projected, so that a mean without it comes by the same branch, and is not computed again.
 fn beside(
     field: &Field<'_>,
     there: bool,
@@ -87,7 +89,7 @@ fn put_gaps_proj(
 }
 
 fn gap_proj(field: &mut Field<'_>, t: &Tile, at: SampledCell)
-    requires sampled { Sample (geometry t.now) at.start at.end at.y at.x }
+    requires sampled { IsSampled (geometry t.now) at }
     requires held { IsHeld (geometry t.now) field.old }
     requires step { t.now.step ≡ 2 }
     ensures same_borrow { IsSameField field.new field.old }

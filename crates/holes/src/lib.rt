@@ -5,7 +5,8 @@ ghost use Rattle.std.specs.Prelude.{◌≡◌};
 ghost use Rattle.store.specs.Store.{Store};
 ghost use Rattle.store.specs.Program.{run};
 ghost use Rattle.tile.specs.Owner.{owns};
-ghost use Rattle.tile.specs.Sound.{InTile, Sample};
+ghost use Rattle.tile.specs.Sound.{InTile};
+ghost use Rattle.tile.specs.Sampled.{IsSampled};
 ghost use Rattle.tile.specs.Tiles.{geometry};
 ghost use Rattle.field.specs.Field.{fill_hole, fill_around, fill_holes};
 ghost use Rattle.field.specs.Lent.{IsHeld, IsSameField, stored};
@@ -29,7 +30,7 @@ fn fill_hole(field: &mut Field<'_>, t: &Tile, delta: i8, v: Mv, y: usize, x: usi
 
 // A cell that is not empty fills its empty neighbours of the block.
 fn fill_around(field: &mut Field<'_>, t: &Tile, delta: i8, at: SampledCell)
-    requires sampled { Sample (geometry t.now) at.start at.end at.y at.x }
+    requires sampled { IsSampled (geometry t.now) at }
     requires held { IsHeld (geometry t.now) field.old }
     ensures same_borrow { IsSameField field.new field.old }
     ensures stored { (s : Store) → stored s field.new ≡ run (owns (geometry t.now)) (fill_around (geometry t.now) delta at.start at.end at.y at.x) (stored s field.old) }

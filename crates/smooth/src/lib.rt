@@ -8,10 +8,11 @@ ghost use Rattle.store.specs.Store.{Store, Kind, field_mvs};
 ghost use Rattle.store.specs.Program.{run, snapshot};
 ghost use Rattle.tile.specs.Layout.{field_at};
 ghost use Rattle.tile.specs.Owner.{owns};
-ghost use Rattle.tile.specs.Sound.{InTile, Sample};
+ghost use Rattle.tile.specs.Sound.{InTile};
+ghost use Rattle.tile.specs.Sampled.{IsSampled};
 ghost use Rattle.tile.specs.Tiles.{geometry};
 ghost use Rattle.field.specs.Field.{added_if, around, smooth_block, smoothen};
-ghost use Rattle.field.specs.Lent.{IsHeld, IsSameField, vector_in, stored};
+ghost use Rattle.field.specs.Lent.{AreVectorsHeld, IsHeld, IsSameField, vector_in, stored};
 ghost use Rattle.smooth.specs.Code.{InBlock, mean_in};
 
 use field::Field;
@@ -22,7 +23,7 @@ use tile::{SampledCell, Tile};
 // A cell, where there is one, is added to a sum.
 fn add_if(field: &Field<'_>, there: bool, t: &Tile, y: usize, x: usize, s: Sum) -> Sum
     requires inside { there ≡ true → InTile (geometry t.now) y x }
-    requires held { IsHeld (geometry t.now) field.now }
+    requires held { AreVectorsHeld (geometry t.now) field.now }
     requires fair { Fair s }
     requires few { s.n ≤ 4 }
     ensures sum { result ≡ added_if there (vector_in field.now (field_at (geometry t.now) y x)) s }
@@ -37,8 +38,8 @@ fn add_if(field: &Field<'_>, there: bool, t: &Tile, y: usize, x: usize, s: Sum) 
 
 // A cell and its neighbours of the block.
 fn around_at(field: &Field<'_>, t: &Tile, at: SampledCell) -> Sum
-    requires sampled { Sample (geometry t.now) at.start at.end at.y at.x }
-    requires held { IsHeld (geometry t.now) field.now }
+    requires sampled { IsSampled (geometry t.now) at }
+    requires held { AreVectorsHeld (geometry t.now) field.now }
     ensures sum { result ≡ around (geometry t.now) (vector_in field.now) at.start at.end at.y at.x }
     ensures fair { Fair result }
     ensures few { result.n ≤ 5 }
@@ -64,11 +65,12 @@ struct Block {
 // The means of a block's sampled cells, cell (a, b) at 8 a + b.
 fn block_means(field: &Field<'_>, t: &Tile, block: Block) -> [Mv; 64]
     requires inside { InBlock (geometry t.now) block.start block.end block.top block.rows block.cols }
-    requires held { IsHeld (geometry t.now) field.now }
+    requires held { AreVectorsHeld (geometry t.now) field.now }
     ensures { (a b : ℕ) → a < block.rows → b < block.cols → mean_in result (a * 8 + b)
         ≡ smoothed_of (around (geometry t.now) (vector_in field.now) block.start block.end (block.top + a * t.now.step) (block.start + b * t.now.step)) }
 {
     let mut means = [Mv::EMPTY; 64];
+    // Sampled rows and columns are counted: of their numbers both the cell and the place of its mean are made.
     for a in 0..block.rows {
         for b in 0..block.cols {
             let at = SampledCell {
@@ -102,8 +104,13 @@ fn put_means(field: &mut Field<'_>, means: &[Mv; 64], t: &Tile, delta: i8, block
 
 // All means first, from the originals.
 fn smooth_block(field: &mut Field<'_>, t: &Tile, delta: i8, start: usize, end: usize, top: usize)
-    requires columns { (t.now.left ≤ start) × (start < t.now.right) × (start % t.now.block ≡ 0) × (end ≡ min t.now.right (start + t.now.block)) }
-    requires rows { (t.now.top ≤ top) × (top < t.now.bottom) × (top % t.now.block ≡ 0) }
+    requires left { t.now.left ≤ start }
+    requires right { start < t.now.right }
+    requires first_column { start % t.now.block ≡ 0 }
+    requires end { end ≡ min t.now.right (start + t.now.block) }
+    requires top { t.now.top ≤ top }
+    requires bottom { top < t.now.bottom }
+    requires first_row { top % t.now.block ≡ 0 }
     requires held { IsHeld (geometry t.now) field.old }
     ensures same_borrow { IsSameField field.new field.old }
     ensures stored { (s : Store) → stored s field.new ≡ run (owns (geometry t.now)) (snapshot (smooth_block (geometry t.now) delta start end top)) (stored s field.old) }

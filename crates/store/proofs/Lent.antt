@@ -1,10 +1,9 @@
 -- Lists that code is lent, and a loop over them as code runs it: what is left from where the loop is, on the lists as they are, is the whole of it on the lists where it began. Assumes nothing.
-use Rattle.std.proofs.Common.{◌≡◌, refl, ◌∙◌, Bool, List, ℕ, ◌+◌, ◌≤◌, ◌<◌, arith, ℤ, length}
+use Rattle.std.proofs.Common.{◌≡◌, refl, Bool, List, ℕ, ◌+◌, ◌≤◌, ◌<◌, arith, ℤ}
 use Rattle.loops.specs.Over.{span}
 use Rattle.loops.proofs.Turns.{turned, ended}
-use Rattle.store.specs.Store.{Store, Kind, SameLengths}
+use Rattle.store.specs.Store.{Store, Kind}
 use Rattle.store.specs.Program.{Prog, run, each}
-use Rattle.store.proofs.Local.{like_refl, like_trans}
 
 -- the store that has the lists, and which lists are of the same lengths
 pub record Lent (L : Type 0) : Type 1 where
@@ -44,20 +43,3 @@ pub record Two : Type 0 where
 
 abbrev pub two : List ℤ → List ℤ → Two
 two y x = record { y = y; x = x }
-
-pub record LikeTwo (l m : Two) : Type 0 where
-  pub y : length l.y ≡ length m.y
-  pub x : length l.x ≡ length m.x
-
-abbrev pub like_two : {l m : Two} → length l.y ≡ length m.y → length l.x ≡ length m.x → LikeTwo l m
-like_two p q = record { y = p; x = q }
-
-pub two_trans : {l m n : Two} → LikeTwo l m → LikeTwo m n → LikeTwo l n
-two_trans p q = like_two (p.y ∙ q.y) (p.x ∙ q.x)
-
-abbrev pub two_lent : (Store → Two → Store) → Lent Two
-two_lent into = record { into = into; Like = LikeTwo; like_refl = λ l. like_two refl refl; like_trans = λ l m n p q. two_trans p q }
-
--- all seven lists
-abbrev pub whole_lent : Lent Store
-whole_lent = record { into = λ s u. u; Like = SameLengths; like_refl = like_refl; like_trans = λ l m n p q. like_trans p q }

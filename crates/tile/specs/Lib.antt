@@ -4,4 +4,5 @@ pub mod Lent
 pub mod Owner
 pub mod Passes
 pub mod Sound
+pub mod Sampled
 pub mod Tiles

@@ -18,7 +18,8 @@ impl Tile {
     /// divided.
     #[tactic(auto, using(crate::proofs::Places::field_is))]
     pub fn field_at(&self, y: usize, x: usize) -> usize
-        requires row { (self.now.top ≤ y) × (y < self.now.top + self.now.side) }
+        requires from { self.now.top ≤ y }
+        requires to { y < self.now.top + self.now.side }
         requires column { x < self.now.stride }
         ensures { result ≡ field_at (geometry self.now) y x }
     {
@@ -58,7 +59,8 @@ impl Tile {
 
     /// How many sampled rows or columns there are from `a` up to `b`.
     pub fn count(&self, a: usize, b: usize) -> usize
-        requires { (a ≤ b) × (b ≤ 16384) }
+        requires order { a ≤ b }
+        requires low { b ≤ 16384 }
         ensures { result ≡ (b - a + (self.now.step - 1)) / self.now.step }
     {
         if self.step == 1 {
@@ -106,7 +108,8 @@ impl Tile {
 
     /// The place of a trajectory of slot `n`.
     pub fn traj_at(&self, n: usize, y: usize, x: usize) -> usize
-        requires { (n < 7) × (x < self.now.stride) }
+        requires slot { n < 7 }
+        requires column { x < self.now.stride }
         ensures { result ≡ traj_at (geometry self.now) n y x }
     {
         n * (self.side * self.stride) + self.place_at(y, x)
@@ -115,7 +118,9 @@ impl Tile {
     /// A map cell from its place in the superblock row, for a caller that looks up one place in
     /// several planes.
     pub fn map_in(&self, k: usize, n: usize, at: usize) -> usize
-        requires { (k < 3) × (n < 7) × (at < row_cells (geometry self.now)) }
+        requires plane { k < 3 }
+        requires slot { n < 7 }
+        requires place { at < row_cells (geometry self.now) }
         ensures { result ≡ (k * 7 + n) * row_cells (geometry self.now) + at }
     {
         (k * 7 + n) * (self.side * self.stride) + at
@@ -124,7 +129,9 @@ impl Tile {
     /// The place of a map cell of slot `n` in plane `k`.
     #[tactic(auto, using(crate::proofs::Places::place_low), unfolding(crate::specs::Layout::map_at))]
     pub fn map_at(&self, k: usize, n: usize, y: usize, x: usize) -> usize
-        requires { (k < 3) × (n < 7) × (x < self.now.stride) }
+        requires plane { k < 3 }
+        requires slot { n < 7 }
+        requires column { x < self.now.stride }
         ensures { result ≡ map_at (geometry self.now) k n y x }
     {
         self.map_in(k, n, self.place_at(y, x))
@@ -178,6 +185,7 @@ pub fn is_there(x: usize, d: i32) -> bool
     requires { x < 2 ^ 32 }
     ensures { result ≡ there x d }
 {
+    // `as`: no From of usize to i64 is there.
     x as i64 + i64::from(d) >= 0
 }
 
@@ -186,6 +194,7 @@ pub fn moved_by(x: usize, d: i32) -> usize
     requires { x < 2 ^ 32 }
     ensures { result ≡ moved x d }
 {
+    // `as`: no From of usize to i64 is there, nor of u64 to usize.
     let z = x as i64 + i64::from(d);
     z.unsigned_abs() as usize
 }

@@ -6,7 +6,7 @@ ghost use Rattle.store.specs.Program.{Prog, run};
 ghost use Rattle.tile.specs.Geometry.{Geometry};
 ghost use Rattle.tile.specs.Owner.{owns};
 ghost use Rattle.tile.specs.Passes.{each_sample, has_left, has_right};
-ghost use Rattle.tile.specs.Sound.{Sample};
+ghost use Rattle.tile.specs.Sampled.{IsSampled};
 ghost use Rattle.tile.specs.Tiles.{geometry};
 
 use super::Tile;
@@ -27,7 +27,7 @@ pub struct SampledCell {
 impl SampledCell {
     /// Has the block another sampled cell to the left?
     pub fn has_left(&self, t: &Tile) -> bool
-        requires { Sample (geometry t.now) self.now.start self.now.end self.now.y self.now.x }
+        requires { IsSampled (geometry t.now) self.now }
         ensures { result ≡ has_left (geometry t.now) self.now.start self.now.x }
     {
         self.start + t.step <= self.x
@@ -35,7 +35,7 @@ impl SampledCell {
 
     /// And to the right?
     pub fn has_right(&self, t: &Tile) -> bool
-        requires { Sample (geometry t.now) self.now.start self.now.end self.now.y self.now.x }
+        requires { IsSampled (geometry t.now) self.now }
         ensures { result ≡ has_right (geometry t.now) self.now.end self.now.x }
     {
         self.x + t.step < self.end
@@ -59,7 +59,7 @@ pub trait Pass<L> {
     /// The work at one cell.
     fn visit(&self, part: &mut L, t: &Tile, at: SampledCell)
         requires fits { Fits self.now (geometry t.now) }
-        requires sampled { Sample (geometry t.now) at.start at.end at.y at.x }
+        requires sampled { IsSampled (geometry t.now) at }
         requires held { Held (geometry t.now) part.old }
         ensures same { Same part.new part.old }
         ensures stored { (s : Store) → stored s part.new
@@ -72,8 +72,8 @@ pub trait Pass<L> {
     ghost held_after: { (t : Geometry) (p q : L) → Same p q → Held t q → Held t p };
 }
 
-// `while`: the steps are numbers of the tile, and `step_by` leaves each loop by two exits, the test's and the sum's, for no plainer text.
 /// Each sampled cell of the tile, block by block of its columns.
+#[tactic(auto, using(crate::proofs::Places::step_some, crate::proofs::Places::block_some))]
 pub fn walk<L, P: Pass<L>>(pass: &P, part: &mut L, t: &Tile)
     requires fits { P.Fits pass.now (geometry t.now) }
     requires held { P.Held (geometry t.now) part.old }
@@ -81,18 +81,12 @@ pub fn walk<L, P: Pass<L>>(pass: &P, part: &mut L, t: &Tile)
     ensures stored { (s : Store) → P.stored s part.new
         ≡ run (owns (geometry t.now)) (each_sample (geometry t.now) (P.program pass.now (geometry t.now))) (P.stored s part.old) }
 {
-    let mut start = t.left;
-    while start < t.right {
+    for start in (t.left..t.right).step_by(t.block) {
         let end = t.right.min(start + t.block);
-        let mut y = t.top;
-        while y < t.bottom {
-            let mut x = start;
-            while x < end {
+        for y in (t.top..t.bottom).step_by(t.step) {
+            for x in (start..end).step_by(t.step) {
                 pass.visit(part, t, SampledCell { start, end, y, x });
-                x += t.step;
             }
-            y += t.step;
         }
-        start += t.block;
     }
 }

@@ -19,8 +19,8 @@ col c =
     let t = c.args.t.now in let k = t.sound in
     omega (arith, turn_below t.step 0 t.wide c.loop-i.i (small (geometry t) k).0 (rw c.count-n.ensures at c.loop-i-test.true), k.wide)
 
-pub count-n-requires : goal.count-n-requires
-count-n-requires c = let k = c.args.t.now.sound in (omega arith, omega (arith, k.wide, k.stride_low))
+pub count-n-requires-clause-low : goal.count-n-requires-clause-low
+count-n-requires-clause-low c = let k = c.args.t.now.sound in omega (arith, k.wide, k.stride_low)
 
 pub loop-i-init : goal.loop-i-init
 unfolding all_below

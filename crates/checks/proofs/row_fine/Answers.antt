@@ -14,8 +14,11 @@ below c =
     let t = c.args.t.now in
     turn_below t.step t.top t.bottom c.loop-j.j (small (geometry t) t.sound).0 (rw c.count-n.ensures at c.loop-j-test.true)
 
-pub count-n-requires : goal.count-n-requires
-count-n-requires c = let k = c.args.t.now.sound in (omega (arith, k.rows), omega (arith, k.frame_end, k.high_low))
+pub count-n-requires-clause-order : goal.count-n-requires-clause-order
+count-n-requires-clause-order c = omega (arith, c.args.t.now.sound.rows)
+
+pub count-n-requires-clause-low : goal.count-n-requires-clause-low
+count-n-requires-clause-low c = let k = c.args.t.now.sound in omega (arith, k.frame_end, k.high_low)
 
 pub loop-j-init : goal.loop-j-init
 unfolding all_below

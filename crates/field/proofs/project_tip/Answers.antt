@@ -5,12 +5,12 @@ use Rattle.store.proofs.Held.{none_empty, some_vector}
 use Rattle.tile.specs.Tiles.{geometry}
 use Rattle.field.specs.Field.{projected}
 use Rattle.field.specs.Lent.{stored, vector_in}
-use Rattle.field.proofs.Borrows.{within_at}
+use Rattle.field.proofs.Borrows.{within_at, cell_at}
 use Rattle.field.proofs.Ways.{tip_off, tip_on}
 use Rattle.field.proofs.project_tip.Goals as goal
 
 pub cell-requires : goal.cell-requires
-cell-requires c = let a = c.args in within_at (geometry a.t.now) a.t.now.sound _ a.y a.x c.field_at-at.ensures c.requires.inside a.field.now c.requires.held
+cell-requires c = let a = c.args in cell_at (geometry a.t.now) a.t.now.sound _ a.y a.x c.field_at-at.ensures c.requires.inside a.field.now c.requires.held
 
 pub returns-in_default-clause-stored : goal.returns-in_default-clause-stored
 returns-in_default-clause-stored c =

@@ -8,7 +8,7 @@ use Rattle.tile.specs.Layout.{field_at}
 use Rattle.tile.specs.Tiles.{geometry}
 use Rattle.field.specs.Field.{projected}
 use Rattle.field.specs.Lent.{vector_in}
-use Rattle.field.proofs.Borrows.{within_at}
+use Rattle.field.proofs.Borrows.{within_at, cell_at}
 use Rattle.gaps.specs.Code.{beside_of}
 use Rattle.gaps.proofs.Ways.{stays}
 use Rattle.gaps.proofs.beside.Goals.{After-project-a}
@@ -18,7 +18,7 @@ pub returns-then-not-there-clause-mean : goal.returns-then-not-there-clause-mean
 returns-then-not-there-clause-mean c = let a = c.args in rw c.if-not-there.true (stays a.v a.s c.requires.some c.requires.fair).0
 
 pub cell-requires : goal.cell-requires
-cell-requires c = let a = c.args in within_at (geometry a.t.now) a.t.now.sound _ a.y a.x c.field_at-at.ensures (c.requires.inside c.if-not-there.false) a.field.now c.requires.held
+cell-requires c = let a = c.args in cell_at (geometry a.t.now) a.t.now.sound _ a.y a.x c.field_at-at.ensures (c.requires.inside c.if-not-there.false) a.field.now c.requires.held
 
 pub returns-in_default-clause-mean : goal.returns-in_default-clause-mean
 returns-in_default-clause-mean c =

@@ -6,13 +6,13 @@ use Rattle.tile.specs.Layout.{field_at}
 use Rattle.tile.specs.Tiles.{geometry}
 use Rattle.tile.proofs.Samples.{gaps_of}
 use Rattle.field.specs.Lent.{vector_in}
-use Rattle.field.proofs.Borrows.{within_at}
+use Rattle.field.proofs.Borrows.{within_at, cell_at}
 use Rattle.gaps.specs.Code.{beside_of}
 use Rattle.gaps.proofs.Ways.{gap_off, gap_on}
 use Rattle.gaps.proofs.gap_proj.Goals as goal
 
 pub cell-requires : goal.cell-requires
-cell-requires c = let a = c.args in within_at (geometry a.t.now) a.t.now.sound _ a.at.y a.at.x c.field_at-place.ensures c.requires.sampled.cell a.field.now c.requires.held
+cell-requires c = let a = c.args in cell_at (geometry a.t.now) a.t.now.sound _ a.at.y a.at.x c.field_at-place.ensures c.requires.sampled.cell a.field.now c.requires.held
 
 pub returns-in_default-clause-stored : goal.returns-in_default-clause-stored
 returns-in_default-clause-stored c =

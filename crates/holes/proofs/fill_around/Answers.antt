@@ -11,7 +11,7 @@ use Rattle.tile.proofs.Samples.{above_in}
 use Rattle.field.specs.Field.{fill_hole, fill_around}
 use Rattle.field.specs.Lent.{IsSameField, stored, vector_in}
 use Rattle.field.specs.declared.Field.{Field}
-use Rattle.field.proofs.Borrows.{within_at, same_after, held_after}
+use Rattle.field.proofs.Borrows.{cell_at, same_after, held_after}
 use Rattle.holes.proofs.Ways.{Step, step_on, step_off, around_off, around_on}
 use Rattle.holes.proofs.fill_around.Goals.{After-has_right, After-has_above, After-has_below, then-has_left, else-has_left, then-has_right, else-has_right, then-has_above, else-has_above}
 use Rattle.holes.proofs.fill_around.Goals as goal
@@ -56,7 +56,7 @@ filled c g d s =
     ∙ sym (around_on t a.t.now.sound a.at.y a.at.x c.requires.sampled.cell c.field_at.result c.field_at.ensures a.delta (stored s a.field.now) a.at.start a.at.end c.in-Some.v e.0 e.1)
 
 pub cell-requires : goal.cell-requires
-cell-requires c = let a = c.args in within_at (geometry a.t.now) a.t.now.sound _ a.at.y a.at.x c.field_at.ensures c.requires.sampled.cell a.field.now c.requires.held
+cell-requires c = let a = c.args in cell_at (geometry a.t.now) a.t.now.sound _ a.at.y a.at.x c.field_at.ensures c.requires.sampled.cell a.field.now c.requires.held
 
 pub returns-in_default-clause-stored : goal.returns-in_default-clause-stored
 returns-in_default-clause-stored c =

@@ -4,12 +4,12 @@ use Rattle.intops.proofs.Signed.{back}
 use Rattle.store.proofs.Held.{empty_by}
 use Rattle.tile.specs.Tiles.{geometry}
 use Rattle.field.specs.Lent.{stored, vector_in}
-use Rattle.field.proofs.Borrows.{within_at}
+use Rattle.field.proofs.Borrows.{within_at, cell_at}
 use Rattle.holes.proofs.Ways.{hole_off, hole_on}
 use Rattle.holes.proofs.fill_hole.Goals as goal
 
 pub cell-requires : goal.cell-requires
-cell-requires c = let a = c.args in within_at (geometry a.t.now) a.t.now.sound _ a.y a.x c.field_at-at.ensures c.requires.inside a.field.now c.requires.held
+cell-requires c = let a = c.args in cell_at (geometry a.t.now) a.t.now.sound _ a.y a.x c.field_at-at.ensures c.requires.inside a.field.now c.requires.held
 
 pub put-requires : goal.put-requires
 put-requires c = let a = c.args in within_at (geometry a.t.now) a.t.now.sound _ a.y a.x c.field_at-at.ensures c.requires.inside a.field.now c.requires.held

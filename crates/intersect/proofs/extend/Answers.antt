@@ -28,8 +28,8 @@ sum_is c =
     rw (simp back at c.clip_sum-y.ensures, simp back at c.clip_sum-x.ensures) in
     e ∙ ap (λ (u : Mv). clipped h.bound (sum_of u h.mv)) (c.vector-v.ensures ∙ ap (map_in a.trajectories.now) c.traj_at.ensures)
 
-pub traj_at-to-requires : goal.traj_at-to-requires
-traj_at-to-requires c = (c.requires.half.b, col c)
+pub traj_at-to-requires-clause-column : goal.traj_at-to-requires-clause-column
+traj_at-to-requires-clause-column c = col c
 
 pub cell-requires : goal.cell-requires
 cell-requires c = let a = c.args in within_at (geometry a.t.now) a.t.now.sound c.traj_at-to.result a.h.now.b a.first.y a.first.x c.traj_at-to.ensures c.requires.half.b (col (goal.at.cell-requires c).Start) a.trajectories.now c.requires.trajectories
@@ -40,8 +40,8 @@ returns-then-taken-clause-stored c =
     extend_off (geometry a.t.now) a.t.now.sound h.bound h.a h.b a.first.y a.first.x h.mv c.requires.half.a c.requires.half.b c.requires.first.block a.trajectories.now a.maps.now c.traj_at-to.result c.traj_at-to.ensures
     (empty_by (map_in a.trajectories.now c.traj_at-to.result) c.cell.result true c.cell.ensures (sym c.is_some-taken.ensures ∙ c.if-taken.true))
 
-pub traj_at-requires : goal.traj_at-requires
-traj_at-requires c = (c.requires.half.a, col (goal.at.traj_at-requires c).Start)
+pub traj_at-requires-clause-column : goal.traj_at-requires-clause-column
+traj_at-requires-clause-column c = col (goal.at.traj_at-requires-clause-column c).Start
 
 pub vector-v-requires : goal.vector-v-requires
 vector-v-requires c = let a = c.args in within_at (geometry a.t.now) a.t.now.sound c.traj_at.result a.h.now.a a.first.y a.first.x c.traj_at.ensures c.requires.half.a (col (goal.at.vector-v-requires c).Start) a.trajectories.now c.requires.trajectories

@@ -41,8 +41,8 @@ returns-then-not-own_block-clause-stored c =
     follow_none (geometry a.t.now) a.t.now.sound h.bound h.a h.b h.at.y h.at.x h.origin.y h.origin.x h.mv a.k a.trajectories.now a.maps.now
     (own_is (goal.at.returns-then-not-own_block-clause-stored c).After-own_block ∙ c.if-not-own_block.true)
 
-pub map_in-requires : goal.map_in-requires
-map_in-requires c = let a = c.args in (c.requires.plane, c.requires.half.a, rw c.requires.row (place_low (geometry a.t.now) a.t.now.sound a.h.now.at.y a.h.now.at.x c.requires.half.x))
+pub map_in-requires-clause-place : goal.map_in-requires-clause-place
+map_in-requires-clause-place c = let a = c.args in rw c.requires.row (place_low (geometry a.t.now) a.t.now.sound a.h.now.at.y a.h.now.at.x c.requires.half.x)
 
 pub map_cell-requires : goal.map_cell-requires
 map_cell-requires c =

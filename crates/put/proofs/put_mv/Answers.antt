@@ -28,7 +28,7 @@ pub field_at-at-requires-clause-column : goal.field_at-at-requires-clause-column
 field_at-at-requires-clause-column c = mine_low (geometry c.args.t.now) c.args.t.now.sound c.args.to.x c.requires.landing.own
 
 pub vector-old-requires : goal.vector-old-requires
-vector-old-requires c = within c
+vector-old-requires c = let w = within c in record { y = w.y; x = w.x }
 
 pub bounds-field-at : goal.bounds-field-at
 bounds-field-at c = (within (goal.at.bounds-field-at c).After-field_at-at).reference

@@ -14,8 +14,8 @@ low c =
     let t = geometry c.args.t.now in let k = c.args.t.now.sound in
     rw c.traj_at-at.ensures (traj_low t k c.args.n c.args.to.y c.args.to.x c.requires.slot (mine_low t k c.args.to.x c.requires.own))
 
-pub traj_at-at-requires : goal.traj_at-at-requires
-traj_at-at-requires c = (c.requires.slot, mine_low (geometry c.args.t.now) c.args.t.now.sound c.args.to.x c.requires.own)
+pub traj_at-at-requires-clause-column : goal.traj_at-at-requires-clause-column
+traj_at-at-requires-clause-column c = mine_low (geometry c.args.t.now) c.args.t.now.sound c.args.to.x c.requires.own
 
 pub put_vector-requires : goal.put_vector-requires
 put_vector-requires c = let l = low (goal.at.put_vector-requires c).After-traj_at-at in record { y = omega (arith, l, c.requires.held.y); x = omega (arith, l, c.requires.held.x) }

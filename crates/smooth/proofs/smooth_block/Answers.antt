@@ -9,15 +9,15 @@ use Rattle.smooth.proofs.smooth_block.Goals as goal
 -- the rows and columns as counted
 block : (c : After-count-2) → let a = c.args in InBlock (geometry a.t.now) a.start a.end a.top c.count.result c.count-2.result
 block c =
-    let p = c.requires.columns in let q = c.requires.rows in
+    let r = c.requires in
     record {
-      left = p.0;
-      right = p.1;
-      on_col = p.2;
-      end = p.3;
-      top = q.0;
-      bottom = q.1;
-      on_row = q.2;
+      left = r.left;
+      right = r.right;
+      on_col = r.first_column;
+      end = r.end;
+      top = r.top;
+      bottom = r.bottom;
+      on_row = r.first_row;
       row_count = rw c.min.ensures at c.count.ensures;
       col_count = c.count-2.ensures;
     }
