@@ -19,7 +19,7 @@ use tile::{Pass, SampledCell, Tile, walk};
 
 /// The field's lists as a load is lent them (rp_proj): a vector for each cell, and the distance
 /// to its reference.
-// No ghost field says how long the lists are: a fact beside a `&mut` in the type has to be rewritten along it in each of several calls in a row, so it is asked for (`IsHeld`).
+// No ghost field says that the lists are long enough for a tile: the type would carry the tile's numbers, and what one of several calls leaves had to be rewritten along them before the next. So it is asked for (`IsHeld`).
 // Field, trajectories and maps are passed as three parameters: a struct that holds them by value keeps at its return only the lists' lengths, one that holds references takes a lifetime for each of them and of their lists.
 #[derive(Drop)]
 pub struct Field<'a> {
@@ -117,12 +117,14 @@ pub fn copy_above(field: &mut Field<'_>, t: &Tile)
     ensures same_borrow { IsSameField field.new field.old }
     ensures stored { (s : Store) → stored s field.new ≡ run (owns (geometry t.now)) (copy_above (geometry t.now)) (stored s field.old) }
 {
+    // Rows are counted: of their numbers both places are made.
     for r in 0..3 {
         let from = t.offset + ((t.side - 3 + r) * t.stride + t.left);
         field.copy_cells(from, r * t.stride + t.left, t.right - t.left);
     }
 }
 
+// A function of its own: passes of three crates cite its contract, an equation with the definition.
 /// A signed byte kept in an unsigned one.
 pub fn as_byte(d: i8) -> u8
     ensures { result ≡ as_byte d }

@@ -94,6 +94,7 @@ fn put_means(field: &mut Field<'_>, means: &[Mv; 64], t: &Tile, delta: i8, block
         ≡ smoothed_of (around (geometry t.now) (was field_mvs) block.start block.end (block.top + a * t.now.step) (block.start + b * t.now.step)))
         → (s : Store) → stored s field.new ≡ run (owns (geometry t.now)) (smooth_block (geometry t.now) delta block.start block.end block.top was) (stored s field.old) }
 {
+    // Counted as in `block_means`.
     for a in 0..block.rows {
         for b in 0..block.cols {
             let at = t.field_at(block.top + a * t.step, block.start + b * t.step);
