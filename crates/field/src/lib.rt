@@ -19,7 +19,7 @@ use tile::{Pass, SampledCell, Tile, walk};
 
 /// The field's lists as a load is lent them (rp_proj): a vector for each cell, and the distance
 /// to its reference.
-// No ghost field says that the lists are long enough for a tile: the type would carry the tile's numbers, and what one of several calls leaves had to be rewritten along them before the next. So it is asked for (`IsHeld`).
+// No ghost field says that the lists are long enough for a tile: the type would carry the tile's numbers, and what one of several calls leaves would have to be rewritten along them before the next. So it is asked for (`IsHeld`).
 // Field, trajectories and maps are passed as three parameters: a struct that holds them by value keeps at its return only the lists' lengths, one that holds references takes a lifetime for each of them and of their lists.
 #[derive(Drop)]
 pub struct Field<'a> {

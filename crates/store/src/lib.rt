@@ -10,7 +10,7 @@ use levels::{Mv, QMv};
 
 /// Two lists of one length and type, lent together: the y and the x of each vector. Trajectories
 /// (rp_traj) are of `i32`, maps (rp_map) of `i8`.
-// No ghost field says that the lists are long enough for a tile: the type would carry the tile's numbers, and what one of several calls leaves had to be rewritten along them before the next. So it is asked for (`IsTrajHeld`, `IsMapHeld` of tile).
+// No ghost field says that the lists are long enough for a tile: the type would carry the tile's numbers, and what one of several calls leaves would have to be rewritten along them before the next. So it is asked for (`IsTrajHeld`, `IsMapHeld` of tile).
 // Trajectories and maps are passed as two parameters: a struct that holds both by value keeps at its return only the lists' lengths, one that holds references takes a lifetime for each of them and of their lists.
 #[derive(Drop)]
 pub struct Pairs<'a, T> {
