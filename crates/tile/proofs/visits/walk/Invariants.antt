@@ -1,10 +1,19 @@
 -- `tile::walk` meets its contract. Assumes nothing.
-use Rattle.std.proofs.Common.{◌≡◌, ◌+◌, ◌%◌, min}
+use Rattle.std.proofs.Common.{◌≡◌, ◌+◌, ◌-◌, ◌%◌, min}
 use Rattle.store.specs.Program.{each_by}
 use Rattle.store.proofs.Walks.{Rest}
 use Rattle.tile.specs.Owner.{owns}
 use Rattle.tile.specs.Tiles.{geometry}
 use Rattle.tile.proofs.visits.walk.Given as goal
+
+abbrev pub decreases-loop-x : goal.decreases-loop-x
+decreases-loop-x g l = l.end - l.x
+
+abbrev pub decreases-loop-y : goal.decreases-loop-y
+decreases-loop-y g l = l.t.bottom - l.y
+
+abbrev pub decreases-loop-start : goal.decreases-loop-start
+decreases-loop-start g l = l.t.right - l.start
 
 abbrev pub invariant-loop-x : goal.invariant-loop-x
 invariant-loop-x g l =
