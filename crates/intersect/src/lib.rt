@@ -51,7 +51,8 @@ fn end_of(t: &Tile, from: Place, v: Mv) -> Place
 // Does v end in the window of `first`'s block?
 #[tactic(auto, unfolding(traj::specs::Traj::ends_in))]
 fn ends_in(t: &Tile, first: Place, from: Place, v: Mv) -> bool
-    requires first { IsLow first }
+    requires row { first.y < 2 ^ 40 }
+    requires column { first.x < 2 ^ 40 }
     requires from { IsLow from }
     ensures { result ≡ spec.ends_in (geometry t.now) first.y first.x from.y from.x v }
 {
@@ -64,9 +65,12 @@ fn ends_in(t: &Tile, first: Place, from: Place, v: Mv) -> bool
 
 // The way from b back to a, as a map cell has it.
 fn way_back(a: usize, b: usize) -> i8
-    requires { (a ≤ b + 127) × (b ≤ a + 127) × (a < 2 ^ 32) }
+    requires after { a ≤ b + 127 }
+    requires before { b ≤ a + 127 }
+    requires low { a < 2 ^ 32 }
     ensures { result ≡ pos a -ℤ pos b }
 {
+    // By `as`: usize has no From into i64, and a byte has each difference that the clauses allow.
     (a as i64 - b as i64) as i8
 }
 
@@ -137,7 +141,8 @@ fn extend(
     h: &Half,
     first: Place,
 )
-    requires half { InStore (geometry t.now) h.now }
+    requires from_slot { h.now.a < 7 }
+    requires to_slot { h.now.b < 7 }
     requires first { IsOwn (geometry t.now) first }
     requires trajectories { IsTrajHeld (geometry t.now) trajectories.old }
     requires maps { IsMapHeld (geometry t.now) maps.old }
@@ -257,7 +262,8 @@ fn in_frame(t: &Tile, from: Place, mv: Mv) -> bool
 
 /// The vector turned round.
 pub fn turned(v: Mv) -> Mv
-    requires { Within 65535 v.y × Within 65535 v.x }
+    requires y { Within 65535 v.y }
+    requires x { Within 65535 v.x }
     ensures { result ≡ spec.turned v }
 {
     Mv { y: -v.y, x: -v.x }
@@ -274,10 +280,12 @@ pub fn check_traj_intersect(
     at: Place,
     mv: Mv,
 )
-    requires slots { (a < 7) × (b < 7) }
+    requires from_slot { a < 7 }
+    requires to_slot { b < 7 }
     requires row { at.y < 8192 }
     requires column { at.x < t.now.stride }
-    requires vector { Within 65535 mv.y × Within 65535 mv.x }
+    requires y { Within 65535 mv.y }
+    requires x { Within 65535 mv.x }
     requires trajectories { IsTrajHeld (geometry t.now) trajectories.old }
     requires maps { IsMapHeld (geometry t.now) maps.old }
     ensures same_trajectories { IsSamePairs trajectories.new trajectories.old }

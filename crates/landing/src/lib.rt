@@ -1,7 +1,7 @@
 // Where a saved vector lands, and whether the field takes it there.
 #![tactic(auto)]
 
-ghost use Rattle.std.specs.Prelude.{◌≡◌, false, cond, ℕ, ◌<◌, pos, neg_ℤ, nat_abs, IfSome};
+ghost use Rattle.std.specs.Prelude.{◌≡◌, false, cond, ℕ, ◌<◌, pos, neg_ℤ, nat_abs, get_or, IfSome};
 ghost use Rattle.std.specs.Int.Signed.{lt_z};
 ghost use Rattle.intops.specs.Bounds.{Within};
 ghost use Rattle.mv.specs.Projection.{past_range, scale_mv};
@@ -18,7 +18,7 @@ use tile::Tile;
 
 mod entries;
 
-pub use entries::Entry;
+pub use entries::{Entry, LinkedEntry};
 
 impl<'a> Entry<'a> {
     /// How far the reference is from the source, as a reference byte has it.
@@ -30,11 +30,11 @@ impl<'a> Entry<'a> {
 
     /// The slot that the reference is, where it is one.
     pub fn slot(&self) -> Option<usize>
+        requires low { nat_abs (ref2idx self.now.source.now self.now.reference) < 7 }
         ensures slot { result ≡ slot_of (ref2idx self.now.source.now self.now.reference) }
         ensures low { IfSome result (λ n. n < 7) }
     {
-        let idx = self.source.ref2idx[self.reference];
-        if idx < 0 { None } else { Some(idx as usize) }
+        usize::try_from(self.source.ref2idx[self.reference]).ok()
     }
 
     /// Does the sign of the distance fit the source's direction?
@@ -59,18 +59,11 @@ impl<'a> Entry<'a> {
 
     /// The vector as a trajectory of the source's own slot (mv1).
     pub fn to_source(&self, v: Mv) -> Mv
-        requires { past_range v ≡ false }
+        requires vector { past_range v ≡ false }
+        requires factor { Within 507904 (get_or self.now.source.now.ref2sf0 self.now.reference (pos 0)) }
         ensures { result ≡ to_source self.now.source.now self.now.reference v }
     {
         scaled(v, -self.source.ref2sf0[self.reference])
-    }
-
-    /// The vector as a trajectory of the slot that the reference is (mv2).
-    pub fn to_reference(&self, v: Mv) -> Mv
-        requires { past_range v ≡ false }
-        ensures { result ≡ to_reference self.now.source.now self.now.reference v }
-    {
-        scaled(v, self.source.ref2sf1[self.reference])
     }
 
     /// The vector as the field has it: turned round where the reference is later than the source.
@@ -86,6 +79,16 @@ impl<'a> Entry<'a> {
     }
 }
 
+impl<'a> LinkedEntry<'a> {
+    /// The vector as a trajectory of the slot that the reference is (mv2).
+    pub fn to_reference(&self, v: Mv) -> Mv
+        requires { past_range v ≡ false }
+        ensures { result ≡ to_reference self.now.entry.source.now self.now.entry.reference v }
+    {
+        scaled(v, self.entry.source.ref2sf1[self.entry.reference])
+    }
+}
+
 /// A vector within a trajectory's bounds.
 pub fn short(v: Mv) -> Mv
     ensures { result ≡ clipped 2047 v }
@@ -95,8 +98,8 @@ pub fn short(v: Mv) -> Mv
     Mv { y, x }
 }
 
-// scale_mv of a saved vector by a source's factor: both are in range.
-fn scaled(v: Mv, sf: i32) -> Mv
+/// scale_mv of a saved vector by a source's factor: both are in range.
+pub fn scaled(v: Mv, sf: i32) -> Mv
     requires vector { past_range v ≡ false }
     requires factor { Within 507904 sf }
     ensures { result ≡ (scale_mv v sf).vector }

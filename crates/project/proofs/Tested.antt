@@ -1,10 +1,13 @@
 -- What tests 9 and 12 say of a source and of a saved block. Assumes nothing.
-use Rattle.std.proofs.Common.{◌≡◌, refl, ap, ◌∙◌, Bool, true, false, not, ◌&&◌, ◌||◌, ℕ, zero, suc, ◌+◌, ◌≤◌, ◌<◌, arith, add-one, leb-true, leb-false, ltb-true, eqb-true, eqb, leb, ltb, ℤ, pos, negsuc, nat_abs, get_or}
+use Rattle.std.proofs.Common.{◌≡◌, refl, sym, ap, ◌∙◌, Bool, true, false, not, ◌&&◌, ◌||◌, if◌then◌else◌, Option, None, Some, Result, Ok, Err, ℕ, zero, suc, ◌+◌, ◌≤◌, ◌<◌, arith, add-one, leb-true, ltb-true, eqb-true, eqb, leb, ltb, ℤ, pos, negsuc, nat_abs, get_or, w8, SFits}
+use Rattle.std.specs.Int.{FitsUnsignedBits}
+use Rattle.std.specs.Prelude.{OkIff}
+use Rattle.std.specs.Result.{result_ok}
 use borrow.Author.Tests.{eqb-false}
 use lib.Signed.{lt_z}
 use Rattle.intops.specs.Choice.{eq_z}
 use Rattle.intops.specs.Bounds.{Within}
-use Rattle.intops.proofs.Signed.{signed, ud, eq_z-true}
+use Rattle.intops.proofs.Signed.{signed, signed!, ud, eq_z-true}
 use Rattle.intops.proofs.Tests.{and_both, not-false}
 use Rattle.levels.specs.declared.QMv.{QMv}
 use Rattle.mv.specs.Packing.{is_mark_byte}
@@ -39,21 +42,47 @@ within_bounds a b z h =
     let w = and_both (not (lt_z z a)) (not (lt_z b z)) h in
     (not-false (lt_z z a) w.0, not-false (lt_z b z) w.1)
 
--- a range around 0 is a bound on the magnitude
-pub abs_within : (n : ℕ) (z : ℤ) → within (negsuc n) (pos (suc n)) z ≡ leb (nat_abs z) (suc n)
-abs_within n z = go (leb (nat_abs z) (suc n)) (lt_z z (negsuc n)) (lt_z (pos (suc n)) z) refl refl refl
-  where
-    go : (p q r : Bool) → leb (nat_abs z) (suc n) ≡ p → lt_z z (negsuc n) ≡ q → lt_z (pos (suc n)) z ≡ r → (not q && not r) ≡ p
-    go true true r e f g = absurd (omega (signed, ud z, leb-true (nat_abs z) (suc n) e))
-    go true false true e f g = absurd (omega (signed, ud z, leb-true (nat_abs z) (suc n) e))
-    go true false false e f g = refl
-    go false true r e f g = refl
-    go false false true e f g = refl
-    go false false false e f g = absurd (omega (signed, ud z, leb-false (nat_abs z) (suc n) e))
-
 -- -1 to 6: as a slot it is below 7
 pub slot_low : (z : ℤ) → within (negsuc 0) (pos 6) z ≡ true → nat_abs z < 7
 slot_low z h = let w = within_bounds (negsuc 0) (pos 6) z h in omega (signed, ud z, w.0, w.1)
+
+not_below : (n : ℕ) → lt_z (pos n) (pos 0) ≡ false
+not_below n = go (lt_z (pos n) (pos 0)) refl
+  where
+    go : (b : Bool) → lt_z (pos n) (pos 0) ≡ b → b ≡ false
+    go true e = absurd (omega (signed, ud (pos n), e))
+    go false e = refl
+
+-- a signed byte made an index: there is one unless it is negative
+module _ {E : Type 0} (r : Result ℕ E) (z : ℤ) (f : SFits w8 z) (h : OkIff r (FitsUnsignedBits 64 z) (nat_abs z)) where
+  pub index_of : result_ok r ≡ (if lt_z z (pos 0) then None else Some (nat_abs z))
+  index_of = go r z f h
+    where
+      go : (r : Result ℕ E) (z : ℤ) → SFits w8 z → OkIff r (FitsUnsignedBits 64 z) (nat_abs z) → result_ok r ≡ (if lt_z z (pos 0) then None else Some (nat_abs z))
+      go (Ok n) (pos m) f h = rw (h.1, not_below m)
+      go (Ok n) (negsuc m) f h = absurd h.0
+      go (Err e) (pos m) f h = absurd (h (omega signed!))
+      go (Err e) (negsuc m) f h = refl
+
+  pub has_index : (n : ℕ) → r ≡ Ok n → (lt_z z (pos 0) ≡ false) × (n ≡ nat_abs z)
+  has_index n e = go (lt_z z (pos 0)) refl
+    where
+      some : Some n ≡ (if lt_z z (pos 0) then None else Some (nat_abs z))
+      some = sym (ap result_ok e) ∙ index_of
+
+      go : (b : Bool) → lt_z z (pos 0) ≡ b → (lt_z z (pos 0) ≡ false) × (n ≡ nat_abs z)
+      go true q = absurd (let k = rw q at some in cc)
+      go false q = (q, let k = rw q at some in cc)
+
+  pub no_index : (e : E) → r ≡ Err e → lt_z z (pos 0) ≡ true
+  no_index d e = go (lt_z z (pos 0)) refl
+    where
+      none : None ≡ (if lt_z z (pos 0) then None else Some (nat_abs z))
+      none = sym (ap result_ok e) ∙ index_of
+
+      go : (b : Bool) → lt_z z (pos 0) ≡ b → lt_z z (pos 0) ≡ true
+      go true q = q
+      go false q = absurd (let k = rw q at none in cc)
 
 -- a fine block's reference
 pub fine_low : (r : ℤ) (q : QMv) → block_fine r q ≡ true → nat_abs r < 7

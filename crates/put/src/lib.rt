@@ -12,12 +12,12 @@ ghost use Rattle.tile.specs.Owner.{own_block, owns};
 ghost use Rattle.tile.specs.Tiles.{geometry};
 ghost use Rattle.field.specs.Lent.{IsHeld, IsSameField, store_of};
 ghost use Rattle.traj.specs.Traj.{clipped};
-ghost use Rattle.project.specs.Project.{put_trajs, put_mv};
+ghost use Rattle.project.specs.Project.{to_source, put_trajs, put_mv};
 ghost use Rattle.landing.specs.Code.{Landing};
 
 use field::Field;
 use intersect::Place;
-use landing::Entry;
+use landing::LinkedEntry;
 use levels::Mv;
 use store::Pairs;
 use tile::Tile;
@@ -35,16 +35,17 @@ fn put_traj(trajectories: &mut Pairs<'_, i32>, t: &Tile, n: usize, to: Place, v:
     trajectories.put_vector(at, landing::short(v));
 }
 
-// A vector that landed leaves the trajectory of the source's slot and that of its reference's,
-// with their ends.
+// A vector that landed leaves the trajectory of the source's slot, `w`, and that of its
+// reference's, with their ends.
 fn put_trajs(
     trajectories: &mut Pairs<'_, i32>,
     maps: &mut Pairs<'_, i8>,
     t: &Tile,
-    e: &Entry<'_>,
+    e: &LinkedEntry<'_>,
     from: Place,
     to: Place,
     v: Mv,
+    w: Mv,
 )
     requires landing { Landing (geometry t.now) from.y from.x to.y to.x }
     requires vector { past_range v ≡ false }
@@ -52,13 +53,13 @@ fn put_trajs(
     requires maps { IsMapHeld (geometry t.now) maps.old }
     ensures same_trajectories { IsSamePairs trajectories.new trajectories.old }
     ensures same_maps { IsSamePairs maps.new maps.old }
-    ensures stored { (s : Store) → stored_trajs s trajectories.new maps.new
-        ≡ run (owns (geometry t.now)) (put_trajs (geometry t.now) e.now.source.now e.now.reference v from.y from.x to.y to.x) (stored_trajs s trajectories.old maps.old) }
+    ensures stored { w ≡ to_source e.now.entry.source.now e.now.entry.reference v → (s : Store) → stored_trajs s trajectories.new maps.new
+        ≡ run (owns (geometry t.now)) (put_trajs (geometry t.now) e.now.entry.source.now e.now.entry.reference v from.y from.x to.y to.x) (stored_trajs s trajectories.old maps.old) }
 {
-    let n = e.source.reference.index();
-    put_traj(trajectories, t, n, to, e.to_source(v));
+    let n = e.entry.source.reference.index();
+    put_traj(trajectories, t, n, to, w);
     intersect::enter_place(maps, t, n, to, from);
-    let Some(m) = e.slot() else {
+    let Some(m) = e.entry.slot() else {
         return;
     };
     put_traj(trajectories, t, m, to, e.to_reference(v));
@@ -66,17 +67,19 @@ fn put_trajs(
 }
 
 /// A vector saved at `from` that landed at `to` goes there where the cell takes it, with its
-/// trajectories where they are on.
+/// trajectories where they are on. `w` is the vector as a trajectory of the source's own slot, which
+/// the caller has found the landing by.
 pub fn put_mv(
     field: &mut Field<'_>,
     trajectories: &mut Pairs<'_, i32>,
     maps: &mut Pairs<'_, i8>,
     t: &Tile,
     traj: bool,
-    e: &Entry<'_>,
+    e: &LinkedEntry<'_>,
     from: Place,
     to: Place,
     v: Mv,
+    w: Mv,
 )
     requires landing { Landing (geometry t.now) from.y from.x to.y to.x }
     requires vector { past_range v ≡ false }
@@ -86,17 +89,18 @@ pub fn put_mv(
     ensures same_field { IsSameField field.new field.old }
     ensures same_trajectories { IsSamePairs trajectories.new trajectories.old }
     ensures same_maps { IsSamePairs maps.new maps.old }
-    ensures stored { store_of field.new trajectories.new maps.new
-        ≡ run (owns (geometry t.now)) (put_mv (geometry t.now) traj e.now.source.now e.now.reference v from.y from.x to.y to.x)
+    ensures stored { w ≡ to_source e.now.entry.source.now e.now.entry.reference v → store_of field.new trajectories.new maps.new
+        ≡ run (owns (geometry t.now)) (put_mv (geometry t.now) traj e.now.entry.source.now e.now.entry.reference v from.y from.x to.y to.x)
         (store_of field.old trajectories.old maps.old) }
 {
     let at = t.field_at(to.y, to.x);
     let old = field.vector(at);
-    if !e.takes(old, field.reference[at]) {
+    let entry = e.entry;
+    if !entry.takes(old, field.reference[at]) {
         return;
     }
     if traj {
-        put_trajs(trajectories, maps, t, e, from, to, v);
+        put_trajs(trajectories, maps, t, e, from, to, v, w);
     }
-    field.put(at, e.turned(v), e.distance());
+    field.put(at, entry.turned(v), entry.distance());
 }

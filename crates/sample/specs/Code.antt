@@ -1,10 +1,14 @@
 -- What the contracts of the code speak of besides the definitions. Assumes nothing.
-use Rattle.std.specs.Prelude.{ℕ, ◌<◌}
+use Rattle.std.specs.Prelude.{◌≡◌, true, ℕ, ◌<◌, pos, negsuc, get_or}
+use Rattle.intops.specs.Bounds.{Within}
 use Rattle.entry.specs.declared.Source.{Source}
-use Rattle.landing.specs.Entries.{IsEntry}
+use Rattle.project.specs.Project.{ref2idx}
+use Rattle.project.specs.Tested.{within}
 
 -- a source's slot and direction, and what it says of each reference, are in range (test 9)
 pub record IsReadable (s : Source) : Type 0 where
   pub slot : s.reference.0 < 7
   pub dir : s.dir < 2
-  pub entry : (b : ℕ) → b < 7 → IsEntry s b
+  pub idx : (b : ℕ) → b < 7 → within (negsuc 0) (pos 6) (ref2idx s b) ≡ true
+  pub first : (b : ℕ) → b < 7 → Within 507904 (get_or s.ref2sf0 b (pos 0))
+  pub second : (b : ℕ) → b < 7 → Within 507904 (get_or s.ref2sf1 b (pos 0))

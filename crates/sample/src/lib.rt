@@ -1,7 +1,8 @@
 // A sampled block: trajectories through it go on, and its vector is projected.
 #![tactic(auto)]
 
-ghost use Rattle.std.specs.Prelude.{◌≡◌, true, false, not, ◌&&◌, List, ◌-◌, ◌*◌, ◌≤◌, ◌<◌, ℤ, negsuc, nat_abs, length, drop};
+ghost use Rattle.std.specs.Prelude.{◌≡◌, true, false, not, ◌&&◌, List, ◌-◌, ◌*◌, ◌≤◌, ◌<◌, ℤ, pos, negsuc, nat_abs, length, get_or, drop};
+ghost use Rattle.intops.specs.Bounds.{Within};
 ghost use Rattle.intops.specs.Choice.{eq_z};
 ghost use Rattle.mv.specs.Projection.{past_range};
 ghost use Rattle.store.specs.Lent.{IsSamePairs, stored_trajs};
@@ -14,14 +15,14 @@ ghost use Rattle.field.specs.Lent.{IsHeld, IsSameField, store_of};
 ghost use Rattle.traj.specs.Traj.{check_traj_intersect};
 ghost use Rattle.project.specs.Project.{saved_at, saved_ref, saved_mv, ref2idx, project_mv};
 ghost use Rattle.project.specs.Project as spec;
-ghost use Rattle.project.specs.Tested.{block_fine};
+ghost use Rattle.project.specs.Tested.{within, block_fine};
 ghost use Rattle.saved.specs.Code.{part_at};
 ghost use Rattle.sample.specs.Code.{IsReadable};
 
 use entry::Source;
 use field::Field;
 use intersect::Place;
-use landing::Entry;
+use landing::{Entry, LinkedEntry};
 use levels::Mv;
 use store::Pairs;
 use tile::Tile;
@@ -36,6 +37,8 @@ fn intersect_at(
     at: Place,
     v: Mv,
 )
+    requires slot { e.now.source.now.reference.0 < 7 }
+    requires idx { within (negsuc 0) (pos 6) (ref2idx e.now.source.now e.now.reference) ≡ true }
     requires row { at.y < t.now.bottom }
     requires column { at.x < t.now.wide }
     requires vector { past_range v ≡ false }
@@ -65,11 +68,13 @@ fn project_mv(
     maps: &mut Pairs<'_, i8>,
     t: &Tile,
     traj: bool,
-    e: &Entry<'_>,
+    e: &LinkedEntry<'_>,
     from: Place,
     v: Mv,
 )
-    requires row { (t.now.top ≤ from.y) × (from.y < t.now.bottom) }
+    requires first { Within 507904 (get_or e.now.entry.source.now.ref2sf0 e.now.entry.reference (pos 0)) }
+    requires top { t.now.top ≤ from.y }
+    requires bottom { from.y < t.now.bottom }
     requires column { from.x < t.now.wide }
     requires vector { past_range v ≡ false }
     requires field { IsHeld (geometry t.now) field.old }
@@ -79,16 +84,17 @@ fn project_mv(
     ensures same_trajectories { IsSamePairs trajectories.new trajectories.old }
     ensures same_maps { IsSamePairs maps.new maps.old }
     ensures stored { store_of field.new trajectories.new maps.new
-        ≡ run (owns (geometry t.now)) (project_mv (geometry t.now) traj e.now.source.now e.now.reference v from.y from.x)
+        ≡ run (owns (geometry t.now)) (project_mv (geometry t.now) traj e.now.entry.source.now e.now.entry.reference v from.y from.x)
         (store_of field.old trajectories.old maps.old) }
 {
-    if !e.right_side() {
+    if !e.entry.right_side() {
         return;
     }
-    let Some(to) = landing::landing(t, from, e.to_source(v)) else {
+    let w = e.entry.to_source(v);
+    let Some(to) = landing::landing(t, from, w) else {
         return;
     };
-    put::put_mv(field, trajectories, maps, t, traj, e, from, to, v);
+    put::put_mv(field, trajectories, maps, t, traj, e, from, to, v, w);
 }
 
 /// A sampled block of source `s` at `at`. `part` is the plane of the source's slot from the tile's
@@ -105,7 +111,8 @@ pub fn sample(
 )
     requires source { IsReadable s.now }
     requires long { 6 * ((t.now.bottom - t.now.top) * t.now.stride) ≤ length part.now }
-    requires row { (t.now.top ≤ at.y) × (at.y < t.now.bottom) }
+    requires top { t.now.top ≤ at.y }
+    requires bottom { at.y < t.now.bottom }
     requires column { at.x < t.now.wide }
     requires fine { block_fine (saved_ref part.now (part_at (geometry t.now) at.y at.x) s.now.dir) (saved_mv part.now (part_at (geometry t.now) at.y at.x) s.now.dir) ≡ true }
     requires field { IsHeld (geometry t.now) field.old }
@@ -123,10 +130,11 @@ pub fn sample(
     let Some(block) = saved::block_at(part, i, usize::from(s.dir)) else {
         return;
     };
-    let e = Entry {
+    let entry = Entry {
         source: s,
         reference: block.reference,
     };
-    intersect_at(trajectories, maps, t, traj, &e, at, block.mv);
+    intersect_at(trajectories, maps, t, traj, &entry, at, block.mv);
+    let e = LinkedEntry { entry };
     project_mv(field, trajectories, maps, t, traj, &e, at, block.mv);
 }

@@ -13,8 +13,8 @@ use Rattle.mv.specs.Projection.{past_range}
 use Rattle.mv.proofs.Packing.{least, not_mark}
 use Rattle.saved.specs.declared.Block.{Block}
 use Rattle.project.specs.Tested.{within, block_fine}
-use Rattle.saved.specs.Code.{saved_of, IsInRange}
-use Rattle.project.proofs.Tested.{within_bounds, fine_low}
+use Rattle.saved.specs.Code.{saved_of}
+use Rattle.project.proofs.Tested.{within_bounds}
 
 abbrev block : ℕ → Mv → Block
 block b v = record { reference = b; mv = v }
@@ -72,12 +72,12 @@ module _ (r : ℤ) (q : QMv) (h : block_fine r q ≡ true) where
   pub has_both : lt_z r (pos 0) ≡ false → is_mark_byte q.y ≡ false → SFits w8 q.y → Some (block (nat_abs r) (vec (unpacked_byte q.y) (unpacked_byte q.x))) ≡ saved_of r q
   has_both l m f = rw (not_none r l, m, x_too l m) (rw (not_empty (unpacked_byte q.y) (byte_low q.y f m)))
 
-  pub has_range : lt_z r (pos 0) ≡ false → is_mark_byte q.y ≡ false → SFits w8 q.y → SFits w8 q.x → IsInRange (Some (block (nat_abs r) (vec (unpacked_byte q.y) (unpacked_byte q.x))))
+  pub has_range : lt_z r (pos 0) ≡ false → is_mark_byte q.y ≡ false → SFits w8 q.y → SFits w8 q.x → past_range (vec (unpacked_byte q.y) (unpacked_byte q.x)) ≡ false
   unfolding past_range
   has_range l m f g =
       let a : nat_abs (unpacked_byte q.y) < 2048 = byte_low q.y f m in
       let b : nat_abs (unpacked_byte q.x) < 2048 = byte_low q.x g (x_too l m) in
-      (fine_low r q h, rw (le-ltb 65535 (nat_abs (unpacked_byte q.y)) (omega arith), le-ltb 65535 (nat_abs (unpacked_byte q.x)) (omega arith)))
+      rw (le-ltb 65535 (nat_abs (unpacked_byte q.y)) (omega arith), le-ltb 65535 (nat_abs (unpacked_byte q.x)) (omega arith))
 
 -- ---- what the code finds, and what the definition goes on with
 

@@ -1,11 +1,12 @@
 // A saved block: where its six bytes begin, and what they say in a direction.
 #![tactic(auto)]
 
-ghost use Rattle.std.specs.Prelude.{◌≡◌, true, ◌+◌, ◌≤◌, ◌<◌, length};
+ghost use Rattle.std.specs.Prelude.{◌≡◌, true, false, ◌+◌, ◌≤◌, ◌<◌, length, IfSome};
+ghost use Rattle.mv.specs.Projection.{past_range};
 ghost use Rattle.tile.specs.Tiles.{geometry};
 ghost use Rattle.project.specs.Project.{saved_at, saved_ref, saved_mv};
 ghost use Rattle.project.specs.Tested.{block_fine};
-ghost use Rattle.saved.specs.Code.{part_at, saved_of, IsInRange};
+ghost use Rattle.saved.specs.Code.{part_at, saved_of};
 
 use levels::Mv;
 use tile::Tile;
@@ -25,12 +26,12 @@ pub fn block_at(part: &[i8], at: usize, dir: usize) -> Option<Block>
     requires direction { dir < 2 }
     requires fine { block_fine (saved_ref part.now at dir) (saved_mv part.now at dir) ≡ true }
     ensures block { result ≡ saved_of (saved_ref part.now at dir) (saved_mv part.now at dir) }
-    ensures in_range { IsInRange result }
+    ensures reference { IfSome result (λ b. b.reference < 7) }
+    ensures vector { IfSome result (λ b. past_range b.mv ≡ false) }
 {
-    let reference = part[at + 4 + dir];
-    if reference < 0 {
+    let Ok(reference) = usize::try_from(part[at + 4 + dir]) else {
         return None;
-    }
+    };
     let y = part[at + 2 * dir];
     if y == -128 {
         return None;
@@ -39,7 +40,7 @@ pub fn block_at(part: &[i8], at: usize, dir: usize) -> Option<Block>
     let vy = mv::dequantize_mv_comp(i32::from(y));
     let vx = mv::dequantize_mv_comp(i32::from(x));
     Some(Block {
-        reference: reference as usize,
+        reference,
         mv: Mv { y: vy, x: vx },
     })
 }
@@ -56,7 +57,8 @@ pub fn rows_at(t: &Tile, n: usize) -> usize
 /// Where the six bytes of a block begin, from the tile's first row.
 #[tactic(auto, unfolding(crate::specs::Code::part_at))]
 pub fn saved_at(t: &Tile, y: usize, x: usize) -> usize
-    requires row { (t.now.top ≤ y) × (y < t.now.bottom) }
+    requires top { t.now.top ≤ y }
+    requires bottom { y < t.now.bottom }
     requires column { x < t.now.wide }
     ensures { result ≡ part_at (geometry t.now) y x }
 {

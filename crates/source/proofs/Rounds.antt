@@ -85,7 +85,7 @@ row t traj planes s a b y = each_by t.step a b (λ x. sample t traj planes s y x
 pub readable : (s : Source) → source_in_range s ≡ true → IsReadable s
 readable s h =
     let q = slots_low s h in
-    record { slot = q.reference; dir = q.dir; entry = λ b l. let e = entry_parts s h b l in record { slot = q.reference; reference = l; idx = e.0; first = e.1; second = e.2 } }
+    record { slot = q.reference; dir = q.dir; idx = λ b l. (entry_parts s h b l).0; first = λ b l. (entry_parts s h b l).1; second = λ b l. (entry_parts s h b l).2 }
 
 -- a source, on two stores
 module _ (t : Geometry) (traj : Bool) (held : List Bool) (planes : List ℤ) (s : Source) (u : Store) where

@@ -22,7 +22,8 @@ use tile::{Pass, SampledCell, Tile, walk};
 // maps seven times three.
 fn row_at(t: &Tile, p: usize, y: usize) -> usize
     requires plane { p < 21 }
-    requires row { (t.now.top ≤ y) × (y < t.now.top + t.now.side) }
+    requires top { t.now.top ≤ y }
+    requires bottom { y < t.now.top + t.now.side }
     ensures { result ≡ p * row_cells (geometry t.now) + place (geometry t.now) y 0 }
 {
     p * (t.side * t.stride) + (y - t.top) * t.stride
@@ -84,7 +85,8 @@ pub fn empty_trajs(trajectories: &mut Pairs<'_, i32>, maps: &mut Pairs<'_, i8>, 
 // The place of a trajectory of the superblock row.
 fn traj_in(t: &Tile, n: usize, y: usize, x: usize) -> usize
     requires slot { n < 7 }
-    requires row { (t.now.top ≤ y) × (y < t.now.top + t.now.side) }
+    requires top { t.now.top ≤ y }
+    requires bottom { y < t.now.top + t.now.side }
     requires column { x < t.now.stride }
     ensures { result ≡ traj_at (geometry t.now) n y x }
 {

@@ -20,7 +20,7 @@ pub follow_all-requires-2 : goal.follow_all-requires-2
 follow_all-requires-2 c =
     let t = geometry c.args.t.now in let k = c.args.t.now.sound in let i = inside (goal.at.follow_all-requires-2 c).Else-not-in_frame in
     record {
-      half = record { a = c.requires.slots.1; b = c.requires.slots.0; y = rw c.end_of-end.ensures.y (omega (arith, i.0, k.high_low)); x = rw c.end_of-end.ensures.x (omega (arith, i.1, k.wide)) };
+      half = record { a = c.requires.to_slot; b = c.requires.from_slot; y = rw c.end_of-end.ensures.y (omega (arith, i.0, k.high_low)); x = rw c.end_of-end.ensures.x (omega (arith, i.1, k.wide)) };
       trajectories = traj_held_after t c.follow_all.ensures.same_trajectories c.requires.trajectories;
       maps = map_held_after t c.follow_all.ensures.same_maps c.requires.maps;
     }

@@ -11,10 +11,8 @@ use Rattle.intersect.proofs.enter_end.Goals as goal
 ends : (c : Else-not-ends_in) → let a = c.args in let t = geometry a.t.now in Ends t a.first.y a.first.x (on_step t (moved a.from.y (cells_of a.v.y))) (on_step t (moved a.from.x (cells_of a.v.x)))
 ends c = let a = c.args in ends_near (geometry a.t.now) a.t.now.sound a.first.y a.first.x a.from.y a.from.x a.v (sym c.ends_in.ensures ∙ c.if-not-ends_in.false)
 
-pub ends_in-requires-clause-first : goal.ends_in-requires-clause-first
-ends_in-requires-clause-first c =
-    let k = c.args.t.now.sound in
-    record { y = c.requires.first.row; x = omega (arith, mine_low (geometry c.args.t.now) k c.args.first.x c.requires.first.block, k.stride_low) }
+pub ends_in-requires-clause-column : goal.ends_in-requires-clause-column
+ends_in-requires-clause-column c = let k = c.args.t.now.sound in omega (arith, mine_low (geometry c.args.t.now) k c.args.first.x c.requires.first.block, k.stride_low)
 
 pub returns-then-not-ends_in-clause-stored : goal.returns-then-not-ends_in-clause-stored
 returns-then-not-ends_in-clause-stored c =

@@ -20,7 +20,7 @@ within c =
     record { y = omega (arith, l, h.y); x = omega (arith, l, h.x); reference = omega (arith, l, h.ref) }
 
 -- the test, of the cell as the lists have it
-took : (c : After-takes) → let e = c.args.e.now in
+took : (c : After-takes) → let e = c.args.e.now.entry in
     takes e.source.now e.reference (vector_in c.args.field.now c.field_at-at.result) (byte_cell (get_or c.args.field.now.reference.now c.field_at-at.result 0)) ≡ c.takes.result
 took c = sym (rw c.vector-old.ensures at c.takes.ensures)
 
@@ -35,8 +35,8 @@ bounds-field-at c = (within (goal.at.bounds-field-at c).After-field_at-at).refer
 
 pub returns-then-not-takes-clause-stored : goal.returns-then-not-takes-clause-stored
 returns-then-not-takes-clause-stored c =
-    let a = c.args in let e = a.e.now in
-    mv_off (geometry a.t.now) a.t.now.sound a.traj a.v a.from.y a.from.x a.to.y a.to.x c.requires.landing.own e.source.now e.reference a.field.now a.trajectories.now a.maps.now
+    let a = c.args in let e = a.e.now.entry in
+    λ we. mv_off (geometry a.t.now) a.t.now.sound a.traj a.v a.from.y a.from.x a.to.y a.to.x c.requires.landing.own e.source.now e.reference a.field.now a.trajectories.now a.maps.now
     c.field_at-at.result c.field_at-at.ensures (took (goal.at.returns-then-not-takes-clause-stored c).After-takes ∙ c.if-not-takes.true)
 
 pub put-requires : goal.put-requires
@@ -44,10 +44,11 @@ put-requires c = within (goal.at.put-requires c).After-field_at-at
 
 pub returns-clause-stored : goal.returns-clause-stored
 returns-clause-stored c =
-    let a = c.args in let e = a.e.now in let t = geometry a.t.now in
+    let a = c.args in let e = a.e.now.entry in let t = geometry a.t.now in
+    λ we.
     let p : (u : Store) → stored_trajs u c.if-traj.trajectories c.if-traj.maps ≡ run (owns t) (when a.traj (put_trajs t e.source.now e.reference a.v a.from.y a.from.x a.to.y a.to.x)) (stored_trajs u a.trajectories.now a.maps.now)
     = λ u. elim c.if-traj.branch [
-      | then-traj w ↦ rw (w.trajectories-is, w.maps-is, w.if-traj.true) (w.put_trajs.ensures.stored u)
+      | then-traj w ↦ rw (w.trajectories-is, w.maps-is, w.if-traj.true) (w.put_trajs.ensures.stored we u)
       | else-traj w ↦ rw (w.trajectories-is, w.maps-is, w.if-traj.false) refl
     ] in
     mv_on t a.t.now.sound a.traj a.v a.from.y a.from.x a.to.y a.to.x c.requires.landing.own e.source.now e.reference a.field.now a.trajectories.now a.maps.now

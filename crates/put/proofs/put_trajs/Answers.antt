@@ -19,8 +19,8 @@ enter_place-requires-clause-columns c = let l = c.requires.landing in record { a
 
 pub returns-in_default-clause-stored : goal.returns-in_default-clause-stored
 returns-in_default-clause-stored c =
-    let a = c.args in let e = a.e.now in
-    trajs_one (geometry a.t.now) a.v a.from.y a.from.x a.to.y a.to.x e.source.now e.reference c.index-n.result c.to_source.result c.index-n.ensures c.to_source.ensures a.trajectories.now a.maps.now c.put_traj.new.trajectories c.enter_place.new.maps c.put_traj.ensures.stored c.enter_place.ensures.stored
+    let a = c.args in let e = a.e.now.entry in
+    λ we. trajs_one (geometry a.t.now) a.v a.from.y a.from.x a.to.y a.to.x e.source.now e.reference c.index-n.result a.w c.index-n.ensures we a.trajectories.now a.maps.now c.put_traj.new.trajectories c.enter_place.new.maps c.put_traj.ensures.stored c.enter_place.ensures.stored
     (no_slot (ref2idx e.source.now e.reference) c.slot.result c.slot.ensures.slot c.in_default.is)
 
 pub put_traj-requires-2-clause-held : goal.put_traj-requires-2-clause-held
@@ -43,7 +43,7 @@ returns-clause-same_maps c = same_pairs_after c.enter_end.ensures.same_borrow c.
 
 pub returns-clause-stored : goal.returns-clause-stored
 returns-clause-stored c =
-    let a = c.args in let e = a.e.now in
+    let a = c.args in let e = a.e.now.entry in
     let i = slot_is (ref2idx e.source.now e.reference) c.slot.result c.slot.ensures.slot c.in-Some.m c.in-Some.is in
-    trajs_two (geometry a.t.now) a.v a.from.y a.from.x a.to.y a.to.x e.source.now e.reference c.index-n.result c.to_source.result c.index-n.ensures c.to_source.ensures a.trajectories.now a.maps.now c.put_traj.new.trajectories c.enter_place.new.maps c.put_traj.ensures.stored c.enter_place.ensures.stored
+    λ we. trajs_two (geometry a.t.now) a.v a.from.y a.from.x a.to.y a.to.x e.source.now e.reference c.index-n.result a.w c.index-n.ensures we a.trajectories.now a.maps.now c.put_traj.new.trajectories c.enter_place.new.maps c.put_traj.ensures.stored c.enter_place.ensures.stored
     c.in-Some.m c.to_reference.result i.0 i.1 c.to_reference.ensures c.put_traj-2.new.trajectories c.enter_end.new.maps c.put_traj-2.ensures.stored c.enter_end.ensures.stored

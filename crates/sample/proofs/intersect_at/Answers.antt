@@ -20,10 +20,13 @@ returns-then-not-traj-clause-stored c = λ u. rw c.if-not-traj.true
 pub returns-in_default-clause-stored : goal.returns-in_default-clause-stored
 returns-in_default-clause-stored c =
     let e = c.args.e.now in let z = ref2idx e.source.now e.reference in
-    λ u. rw (c.if-not-traj.false, none z e.in_range.idx (no_slot z c.slot.result c.slot.ensures.slot c.in_default.is))
+    λ u. rw (c.if-not-traj.false, none z c.requires.idx (no_slot z c.slot.result c.slot.ensures.slot c.in_default.is))
 
-pub check_traj_intersect-requires-clause-vector : goal.check_traj_intersect-requires-clause-vector
-check_traj_intersect-requires-clause-vector c = let b = in_range c.args.v c.requires.vector in (record { within = b.0 }, record { within = b.1 })
+pub check_traj_intersect-requires-clause-y : goal.check_traj_intersect-requires-clause-y
+check_traj_intersect-requires-clause-y c = record { within = (in_range c.args.v c.requires.vector).0 }
+
+pub check_traj_intersect-requires-clause-x : goal.check_traj_intersect-requires-clause-x
+check_traj_intersect-requires-clause-x c = record { within = (in_range c.args.v c.requires.vector).1 }
 
 pub returns-clause-stored : goal.returns-clause-stored
 returns-clause-stored c =

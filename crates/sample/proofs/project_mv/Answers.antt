@@ -7,24 +7,24 @@ use Rattle.sample.proofs.project_mv.Goals as goal
 
 pub returns-then-not-right_side-clause-stored : goal.returns-then-not-right_side-clause-stored
 returns-then-not-right_side-clause-stored c =
-    let a = c.args in let e = a.e.now in
+    let a = c.args in let e = a.e.now.entry in
     side_off (geometry a.t.now) a.traj a.v a.from.y a.from.x e.source.now e.reference _ (sym c.right_side.ensures ∙ c.if-not-right_side.true)
 
 pub returns-in_default-clause-stored : goal.returns-in_default-clause-stored
 returns-in_default-clause-stored c =
-    let a = c.args in let e = a.e.now in let w = c.to_source.result in
-    lands_off (geometry a.t.now) a.traj a.v a.from.y a.from.x e.source.now e.reference _ (sym c.right_side.ensures ∙ c.if-not-right_side.false) w c.to_source.ensures
+    let a = c.args in let e = a.e.now.entry in let w = c.to_source-w.result in
+    lands_off (geometry a.t.now) a.traj a.v a.from.y a.from.x e.source.now e.reference _ (sym c.right_side.ensures ∙ c.if-not-right_side.false) w c.to_source-w.ensures
     (lands_nowhere (geometry a.t.now) a.from.y a.from.x w c.landing.result c.landing.ensures c.in_default.is)
 
 pub put_mv-requires-clause-landing : goal.put_mv-requires-clause-landing
 put_mv-requires-clause-landing c =
-    let a = c.args in let t = geometry a.t.now in let w = c.to_source.result in
+    let a = c.args in let t = geometry a.t.now in let w = c.to_source-w.result in
     let h = lands_at t a.from.y a.from.x w c.landing.result c.landing.ensures c.in-Some.to c.in-Some.is in
-    rw (← h.1, ← h.2) (landing t a.t.now.sound a.from.y a.from.x w c.requires.row.0 c.requires.row.1 c.requires.column h.0)
+    rw (← h.1, ← h.2) (landing t a.t.now.sound a.from.y a.from.x w c.requires.top c.requires.bottom c.requires.column h.0)
 
 pub returns-clause-stored : goal.returns-clause-stored
 returns-clause-stored c =
-    let a = c.args in let e = a.e.now in let t = geometry a.t.now in let w = c.to_source.result in
+    let a = c.args in let e = a.e.now.entry in let t = geometry a.t.now in let w = c.to_source-w.result in
     let h = lands_at t a.from.y a.from.x w c.landing.result c.landing.ensures c.in-Some.to c.in-Some.is in
-    lands_on t a.traj a.v a.from.y a.from.x e.source.now e.reference _ (sym c.right_side.ensures ∙ c.if-not-right_side.false) w c.to_source.ensures
-    h.0 c.in-Some.to.y c.in-Some.to.x h.1 h.2 _ c.put_mv.ensures.stored
+    lands_on t a.traj a.v a.from.y a.from.x e.source.now e.reference _ (sym c.right_side.ensures ∙ c.if-not-right_side.false) w c.to_source-w.ensures
+    h.0 c.in-Some.to.y c.in-Some.to.x h.1 h.2 _ (c.put_mv.ensures.stored c.to_source-w.ensures)

@@ -15,12 +15,12 @@ saved_is : (c : After-block_at) (planes : List ℤ) → let t = geometry c.args.
 saved_is c planes e =
     let a = c.args in
     sym ((rw (c.from.ensures, c.saved_at-i.ensures) at c.block_at.ensures.block)
-    ∙ block_same (geometry a.t.now) planes a.part.now a.s.now.reference.0 a.at.y a.at.x c.requires.row.0 e saved_of a.s.now.dir)
+    ∙ block_same (geometry a.t.now) planes a.part.now a.s.now.reference.0 a.at.y a.at.x c.requires.top e saved_of a.s.now.dir)
 
 pub block_at-requires-clause-inside : goal.block_at-requires-clause-inside
 block_at-requires-clause-inside c =
     let t = geometry c.args.t.now in
-    rw c.saved_at-i.ensures (omega (arith, block_in t c.args.at.y c.args.at.x c.requires.row.0 c.requires.row.1 (omega (arith, c.requires.column, c.args.t.now.sound.wide)), c.requires.long))
+    rw c.saved_at-i.ensures (omega (arith, block_in t c.args.at.y c.args.at.x c.requires.top c.requires.bottom (omega (arith, c.requires.column, c.args.t.now.sound.wide)), c.requires.long))
 
 pub block_at-requires-clause-direction : goal.block_at-requires-clause-direction
 block_at-requires-clause-direction c = rw c.from.ensures c.requires.source.dir

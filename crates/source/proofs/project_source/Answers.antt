@@ -79,8 +79,11 @@ sample-requires-clause-long c =
     let a = c.args in
     (long (geometry a.t.now) a.t.now.sound _ a.s.now.reference.0 _ a.planes.now c.rows_at-at.ensures c.index-n.ensures (slots_low a.s.now c.requires.source).reference c.requires.long).1
 
-pub sample-requires-clause-row : goal.sample-requires-clause-row
-sample-requires-clause-row c = (c.loop-y.invariant.from, c.loop-y-test.true)
+pub sample-requires-clause-top : goal.sample-requires-clause-top
+sample-requires-clause-top c = c.loop-y.invariant.from
+
+pub sample-requires-clause-bottom : goal.sample-requires-clause-bottom
+sample-requires-clause-bottom c = c.loop-y-test.true
 
 pub sample-requires-clause-column : goal.sample-requires-clause-column
 sample-requires-clause-column c = omega (arith, c.loop-x-test.true, c.min-end.ensures)

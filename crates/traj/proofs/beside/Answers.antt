@@ -12,7 +12,7 @@ returns-else-there c = rw c.if-there.false
 pub traj_in-requires : goal.traj_in-requires
 traj_in-requires c =
     let k = c.args.t.now.sound in let h = c.requires.inside c.if-there.true in
-    record { slot = c.requires.slot; row = (h.top, omega (arith, h.bottom, k.bottom)); column = col_low (geometry c.args.t.now) k c.args.x h.right }
+    record { slot = c.requires.slot; top = h.top; bottom = omega (arith, h.bottom, k.bottom); column = col_low (geometry c.args.t.now) k c.args.x h.right }
 
 pub vector-requires : goal.vector-requires
 vector-requires c =

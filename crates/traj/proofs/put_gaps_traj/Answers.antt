@@ -14,7 +14,7 @@ overflow_add-x c = let t = geometry c.args.t.now in let k = c.args.t.now.sound i
 pub traj_in-requires : goal.traj_in-requires
 traj_in-requires c =
     let t = geometry c.args.t.now in let k = c.args.t.now.sound in let g = c.requires.gaps in
-    record { slot = c.requires.slot; row = (g.top, omega (arith, g.below)); column = mine_low t k (c.args.x + 1) g.right }
+    record { slot = c.requires.slot; top = g.top; bottom = omega (arith, g.below); column = mine_low t k (c.args.x + 1) g.right }
 
 pub put_vector-requires : goal.put_vector-requires
 put_vector-requires c =
@@ -24,7 +24,7 @@ put_vector-requires c =
 pub traj_in-requires-2 : goal.traj_in-requires-2
 traj_in-requires-2 c =
     let t = geometry c.args.t.now in let k = c.args.t.now.sound in let g = c.requires.gaps in
-    record { slot = c.requires.slot; row = (omega (arith, g.top), g.below); column = mine_low t k c.args.x g.here }
+    record { slot = c.requires.slot; top = omega (arith, g.top); bottom = g.below; column = mine_low t k c.args.x g.here }
 
 pub put_vector-requires-2 : goal.put_vector-requires-2
 put_vector-requires-2 c =
@@ -38,7 +38,7 @@ overflow_add-x-2 c = let t = geometry c.args.t.now in let k = c.args.t.now.sound
 pub traj_in-requires-3 : goal.traj_in-requires-3
 traj_in-requires-3 c =
     let t = geometry c.args.t.now in let k = c.args.t.now.sound in let g = c.requires.gaps in
-    record { slot = c.requires.slot; row = (omega (arith, g.top), g.below); column = mine_low t k (c.args.x + 1) g.right }
+    record { slot = c.requires.slot; top = omega (arith, g.top); bottom = g.below; column = mine_low t k (c.args.x + 1) g.right }
 
 pub put_vector-requires-3 : goal.put_vector-requires-3
 put_vector-requires-3 c =

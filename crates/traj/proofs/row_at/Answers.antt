@@ -4,4 +4,4 @@ use Rattle.traj.proofs.Rows.{row_is}
 use Rattle.traj.proofs.row_at.Goals as goal
 
 pub returns : goal.returns
-returns c = let a = c.args in row_is (geometry a.t.now) a.t.now.sound a.p a.y c.requires.row.0 c.requires.row.1
+returns c = let a = c.args in row_is (geometry a.t.now) a.t.now.sound a.p a.y c.requires.top c.requires.bottom

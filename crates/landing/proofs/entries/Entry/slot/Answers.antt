@@ -1,16 +1,23 @@
 -- `landing::Entry::slot` meets its contract. Assumes nothing.
-use Rattle.std.proofs.Common.{pos, w8, SFits, rules}
-use Rattle.intops.proofs.Signed.{back, lt_lit}
+use Rattle.std.proofs.Common.{◌≡◌, ◌∙◌, ◌<◌, Bool, true, false, if◌then◌else◌, ℕ, pos, nat_abs, None, Some, IfSome, w8, SFits, rules}
+use lib.Signed.{lt_z}
+use Rattle.intops.proofs.Signed.{back}
 use Rattle.project.specs.Project.{ref2idx}
-use Rattle.project.proofs.Tested.{slot_low}
+use Rattle.project.proofs.Tested.{index_of}
+use Rattle.landing.specs.Code.{slot_of}
+use Rattle.landing.proofs.entries.Entry.slot.Goals.{After-ok}
 use Rattle.landing.proofs.entries.Entry.slot.Goals as goal
 
-pub returns-then-idx-lt0-clause-slot : goal.returns-then-idx-lt0-clause-slot
-returns-then-idx-lt0-clause-slot c =
-    let f : SFits w8 (ref2idx c.args.self.now.source.now c.args.self.now.reference) = search rules in
-    rw (lt_lit (pos 0) f c.if-idx-lt0.true)
-
-pub returns-else-idx-lt0 : goal.returns-else-idx-lt0
-returns-else-idx-lt0 c =
+is : (c : After-ok) → c.ok.result ≡ slot_of (ref2idx c.args.self.now.source.now c.args.self.now.reference)
+is c =
     let z = ref2idx c.args.self.now.source.now c.args.self.now.reference in let f : SFits w8 z = search rules in
-    record { slot = rw (lt_lit (pos 0) f c.if-idx-lt0.false) (simp back); low = simp back (slot_low z c.args.self.now.in_range.idx) }
+    c.ok.ensures.value ∙ index_of c.try_from.result z f (simp back at c.try_from.ensures)
+
+below : (b : Bool) (n : ℕ) → n < 7 → IfSome (if b then None else Some n) (λ m. m < 7)
+below true n h = tt
+below false n h = h
+
+pub returns : goal.returns
+returns c =
+    let z = ref2idx c.args.self.now.source.now c.args.self.now.reference in
+    record { slot = is c; low = rw (is c) (below (lt_z z (pos 0)) (nat_abs z) c.requires.low) }

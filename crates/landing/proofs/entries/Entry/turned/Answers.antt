@@ -6,7 +6,7 @@ use Rattle.landing.proofs.Landings.{in_range}
 use Rattle.landing.proofs.entries.Entry.turned.Goals as goal
 
 pub turned-requires : goal.turned-requires
-turned-requires c = let b = in_range c.args.v c.requires in (record { within = b.0 }, record { within = b.1 })
+turned-requires c = let b = in_range c.args.v c.requires in record { y = record { within = b.0 }; x = record { within = b.1 } }
 
 pub returns-then-d-lt0 : goal.returns-then-d-lt0
 returns-then-d-lt0 c =
