@@ -241,6 +241,7 @@ fn follow_all(trajectories: &mut Pairs<'_, i32>, maps: &mut Pairs<'_, i8>, t: &T
 {
     let row = t.place_at(h.at.y, h.at.x);
     let col = t.in_blocks(h.at.x);
+    // Planes by their numbers: a place is found of them, and all stand in the same lists.
     for k in 0..3 {
         follow(trajectories, maps, t, h, k, row, col);
     }

@@ -1,5 +1,5 @@
 -- What tests 9 and 12 say of a source and of a saved block. Assumes nothing.
-use Rattle.std.proofs.Common.{◌≡◌, refl, sym, ap, ◌∙◌, Bool, true, false, not, ◌&&◌, ◌||◌, if◌then◌else◌, Option, None, Some, Result, Ok, Err, ℕ, zero, suc, ◌+◌, ◌≤◌, ◌<◌, arith, add-one, leb-true, ltb-true, eqb-true, eqb, leb, ltb, ℤ, pos, negsuc, nat_abs, get_or, w8, SFits}
+use Rattle.std.proofs.Common.{◌≡◌, refl, sym, ap, ◌∙◌, Bool, true, false, not, ◌&&◌, ◌||◌, if◌then◌else◌, None, Some, Result, Ok, Err, ℕ, zero, suc, ◌+◌, ◌≤◌, ◌<◌, arith, add-one, leb-true, ltb-true, eqb-true, eqb, leb, ltb, ℤ, pos, negsuc, nat_abs, get_or, w8, SFits}
 use Rattle.std.specs.Int.{FitsUnsignedBits}
 use Rattle.std.specs.Prelude.{OkIff}
 use Rattle.std.specs.Result.{result_ok}

@@ -40,6 +40,7 @@ fn fill_rows<T: Copy>(cells: &mut Pairs<'_, T>, t: &Tile, p: usize, a: usize, b:
     ensures y { cells.new.y.now ≡ rows_filled (geometry t.now) p a b y cells.old.y.now }
     ensures x { cells.new.x.now ≡ rows_filled (geometry t.now) p a b x cells.old.x.now }
 {
+    // By its number: a row's place is found of it, and the tile's rows are no slice.
     for row in t.top..t.bottom {
         let start = row_at(t, p, row);
         cells.fill(start + a, start + b, y, x);
@@ -72,6 +73,7 @@ pub fn empty_trajs(trajectories: &mut Pairs<'_, i32>, maps: &mut Pairs<'_, i8>, 
     ensures stored { (s : Store) → stored_trajs s trajectories.new maps.new
         ≡ run (owns (geometry t.now)) (empty_trajs (geometry t.now)) (stored_trajs s trajectories.old maps.old) }
 {
+    // Slots and planes by their numbers: a place is found of them, and all stand in the same lists.
     for n in 0..7 {
         fill_rows(trajectories, t, n, t.left, t.right, levels::INVALID_MV, 0);
         for k in 0..3 {
@@ -93,7 +95,8 @@ fn traj_in(t: &Tile, n: usize, y: usize, x: usize) -> usize
     row_at(t, n, y) + x
 }
 
-// A sampled neighbour; empty where there is none.
+// A sampled neighbour; empty where there is none. Not one with `beside` of `gaps`, which projects a
+// field cell and answers its mean with another and its sum: the two share no more than the test.
 fn beside(there: bool, trajectories: &Pairs<'_, i32>, t: &Tile, n: usize, y: usize, x: usize) -> Mv
     requires slot { n < 7 }
     requires inside { there ≡ true → InTile (geometry t.now) y x }
@@ -108,6 +111,8 @@ fn beside(there: bool, trajectories: &Pairs<'_, i32>, t: &Tile, n: usize, y: usi
 }
 
 // The cells to the right, below and between get the means of the sampled cells around them.
+// Not one with put_gaps_proj of `gaps`, which stores means that its caller has found, each with a
+// reference, in the field.
 fn put_gaps_traj(
     trajectories: &mut Pairs<'_, i32>,
     t: &Tile,

@@ -2,7 +2,6 @@
 use Rattle.std.proofs.Common.{sym, ◌∙◌, ◌<◌, arith}
 use Rattle.tile.specs.Layout.{on_step, cells_of, moved}
 use Rattle.tile.specs.Tiles.{geometry}
-use Rattle.tile.proofs.Lent.{traj_held_after, map_held_after}
 use Rattle.traj.proofs.Windows.{in_frame_lem}
 use Rattle.intersect.proofs.Ways.{meet_off, meet_on}
 use Rattle.intersect.proofs.check_traj_intersect.Goals.{Else-not-in_frame}
@@ -16,14 +15,10 @@ returns-then-not-in_frame-clause-stored c =
     let a = c.args in let f = c.follow_all in
     meet_off (geometry a.t.now) a.a a.b a.at.y a.at.x a.mv a.trajectories.now a.maps.now f.new.trajectories f.new.maps f.ensures.stored (sym c.in_frame.ensures ∙ c.if-not-in_frame.true)
 
-pub follow_all-requires-2 : goal.follow_all-requires-2
-follow_all-requires-2 c =
-    let t = geometry c.args.t.now in let k = c.args.t.now.sound in let i = inside (goal.at.follow_all-requires-2 c).Else-not-in_frame in
-    record {
-      half = record { a = c.requires.to_slot; b = c.requires.from_slot; y = rw c.end_of-end.ensures.y (omega (arith, i.0, k.high_low)); x = rw c.end_of-end.ensures.x (omega (arith, i.1, k.wide)) };
-      trajectories = traj_held_after t c.follow_all.ensures.same_trajectories c.requires.trajectories;
-      maps = map_held_after t c.follow_all.ensures.same_maps c.requires.maps;
-    }
+pub follow_all-requires-2-clause-half : goal.follow_all-requires-2-clause-half
+follow_all-requires-2-clause-half c =
+    let k = c.args.t.now.sound in let i = inside (goal.at.follow_all-requires-2-clause-half c).Else-not-in_frame in
+    record { a = c.requires.to_slot; b = c.requires.from_slot; y = rw c.end_of-end.ensures.y (omega (arith, i.0, k.high_low)); x = rw c.end_of-end.ensures.x (omega (arith, i.1, k.wide)) }
 
 pub returns-clause-stored : goal.returns-clause-stored
 returns-clause-stored c =

@@ -1,21 +1,11 @@
 -- `intersect::follow_all` meets its contract. Assumes nothing.
 use Rattle.std.proofs.Common.{arith}
-use Rattle.store.proofs.Lent.{at_holds, at_again, at_done}
+use Rattle.store.proofs.Lent.{at_again, at_done}
 use Rattle.tile.specs.Owner.{owns}
 use Rattle.tile.specs.Tiles.{geometry}
-use Rattle.tile.proofs.Lent.{traj_held_after, map_held_after}
 use Rattle.traj.proofs.Lists.{both, all_lent}
 use Rattle.intersect.specs.Code.{followed}
 use Rattle.intersect.proofs.follow_all.Goals as goal
-
-pub loop-k-init : goal.loop-k-init
-loop-k-init c = let t = geometry c.args.t.now in at_holds all_lent (owns t) (followed t c.args.h.now) 0 3 _
-
-pub follow-requires-clause-trajectories : goal.follow-requires-clause-trajectories
-follow-requires-clause-trajectories c = traj_held_after (geometry c.args.t.now) c.loop-k.invariant.like.trajs c.requires.trajectories
-
-pub follow-requires-clause-maps : goal.follow-requires-clause-maps
-follow-requires-clause-maps c = map_held_after (geometry c.args.t.now) c.loop-k.invariant.like.maps c.requires.maps
 
 pub loop-k-preserved : goal.loop-k-preserved
 loop-k-preserved c =

@@ -1,5 +1,5 @@
 -- `intersect::led_to` meets its contract. Assumes nothing.
-use Rattle.std.proofs.Common.{rules, ◌≡◌, ◌∙◌, ◌<◌, arith, w32, SFits}
+use Rattle.std.proofs.Common.{rules, ◌≡◌, ◌∙◌, ◌<◌, w32, SFits}
 use Rattle.intops.proofs.Signed.{back}
 use Rattle.tile.specs.Layout.{there, moved}
 use Rattle.tile.proofs.Moves.{moved_low}
@@ -24,18 +24,6 @@ there_is : (c : After-is_there-2) → let a = c.args in (c.is_there.result ≡ t
 there_is c =
     let f : SFits w32 c.args.m.y = search rules in let g : SFits w32 c.args.m.x = search rules in
     (simp back at c.is_there.ensures, simp back at c.is_there-2.ensures)
-
-pub near_col-requires : goal.near_col-requires
-near_col-requires c = omega (arith, (x_is (goal.at.near_col-requires c).After-moved_by-x).1)
-
-pub near_col-requires-2 : goal.near_col-requires-2
-near_col-requires-2 c = omega (arith, (x_is (goal.at.near_col-requires-2 c).After-moved_by-x).1)
-
-pub same_rows-requires : goal.same_rows-requires
-same_rows-requires c = omega (arith, (y_is (goal.at.same_rows-requires c).After-moved_by-y).1)
-
-pub same_rows-requires-2 : goal.same_rows-requires-2
-same_rows-requires-2 c = omega (arith, (y_is (goal.at.same_rows-requires-2 c).After-moved_by-y).1)
 
 pub returns : goal.returns
 unfolding leads

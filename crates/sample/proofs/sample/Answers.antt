@@ -22,28 +22,10 @@ block_at-requires-clause-inside c =
     let t = geometry c.args.t.now in
     rw c.saved_at-i.ensures (omega (arith, block_in t c.args.at.y c.args.at.x c.requires.top c.requires.bottom (omega (arith, c.requires.column, c.args.t.now.sound.wide)), c.requires.long))
 
-pub block_at-requires-clause-direction : goal.block_at-requires-clause-direction
-block_at-requires-clause-direction c = rw c.from.ensures c.requires.source.dir
-
-pub block_at-requires-clause-fine : goal.block_at-requires-clause-fine
-block_at-requires-clause-fine c = rw (c.from.ensures, c.saved_at-i.ensures) c.requires.fine
-
 pub returns-in_default-clause-stored : goal.returns-in_default-clause-stored
 returns-in_default-clause-stored c =
     let a = c.args in
     λ planes e. sample_off (geometry a.t.now) a.traj planes a.s.now a.at.y a.at.x (saved_is (goal.at.returns-in_default-clause-stored c).After-block_at planes e ∙ c.in_default.is) _
-
-pub project_mv-requires-clause-trajectories : goal.project_mv-requires-clause-trajectories
-project_mv-requires-clause-trajectories c = traj_held_after (geometry c.args.t.now) c.intersect_at.ensures.same_trajectories c.requires.trajectories
-
-pub project_mv-requires-clause-maps : goal.project_mv-requires-clause-maps
-project_mv-requires-clause-maps c = map_held_after (geometry c.args.t.now) c.intersect_at.ensures.same_maps c.requires.maps
-
-pub returns-clause-same_trajectories : goal.returns-clause-same_trajectories
-returns-clause-same_trajectories c = same_pairs_after c.project_mv.ensures.same_trajectories c.intersect_at.ensures.same_trajectories
-
-pub returns-clause-same_maps : goal.returns-clause-same_maps
-returns-clause-same_maps c = same_pairs_after c.project_mv.ensures.same_maps c.intersect_at.ensures.same_maps
 
 pub returns-clause-stored : goal.returns-clause-stored
 returns-clause-stored c =

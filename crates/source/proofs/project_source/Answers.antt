@@ -17,10 +17,6 @@ use Rattle.source.proofs.Rounds.{parts, IsDone, rest_begins, rest_turn, rest_end
 use Rattle.source.proofs.project_source.Goals.{Else-s, Left-loop-x, else-loop-x-test, then-loop-x-test+else-x-step-end}
 use Rattle.source.proofs.project_source.Goals as goal
 
--- the columns begin at a sampled one
-from_on : (t : Geometry) → Sound t → (t.left - t.edge) % t.step ≡ 0
-from_on t k = sides t k (λ B d. t.left % B ≡ 0 → t.edge % d ≡ 0 → (t.left - t.edge) % d ≡ 0) (λ a b. omega arith) (λ a b. omega arith) (λ a b. omega arith) (λ a b. omega arith) k.start k.edge_on_step
-
 -- the part of the planes from place i on, where the rows of slot n begin
 begins : (t : Geometry) (m n i : ℕ) → i ≡ saved_at t m t.top 0 → m ≡ n → i ≡ saved_at t n t.top 0
 begins t m n i e f = e ∙ ap (λ (j : ℕ). saved_at t j t.top 0) f
@@ -52,9 +48,6 @@ returns-then-s-clause-stored c =
 pub bounds-present-n : goal.bounds-present-n
 bounds-present-n c = rw c.index-n.ensures (slots_low c.args.s.now c.requires.source).reference
 
-pub rows_at-at-requires : goal.rows_at-at-requires
-rows_at-at-requires c = rw c.index-n.ensures (slots_low c.args.s.now c.requires.source).reference
-
 pub slice_bounds-part-start : goal.slice_bounds-part-start
 slice_bounds-part-start c =
     let a = c.args in
@@ -65,12 +58,6 @@ slice_bounds-part-count c =
     let a = c.args in
     omega (arith, (long (geometry a.t.now) a.t.now.sound _ a.s.now.reference.0 _ a.planes.now c.rows_at-at.ensures c.index-n.ensures (slots_low a.s.now c.requires.source).reference c.requires.long).0)
 
-pub loop-y-init : goal.loop-y-init
-loop-y-init c = let t = geometry c.args.t.now in let k = c.args.t.now.sound in rest_begins t _ _ _ (block_on_step t k t.top k.top_on_block) _
-
-pub loop-x-init : goal.loop-x-init
-loop-x-init c = let t = geometry c.args.t.now in rest_begins t _ _ _ (rw c.saturating_sub-from.ensures (from_on t c.args.t.now.sound)) _
-
 pub sample-requires-clause-source : goal.sample-requires-clause-source
 sample-requires-clause-source c = readable c.args.s.now c.requires.source
 
@@ -78,15 +65,6 @@ pub sample-requires-clause-long : goal.sample-requires-clause-long
 sample-requires-clause-long c =
     let a = c.args in
     (long (geometry a.t.now) a.t.now.sound _ a.s.now.reference.0 _ a.planes.now c.rows_at-at.ensures c.index-n.ensures (slots_low a.s.now c.requires.source).reference c.requires.long).1
-
-pub sample-requires-clause-top : goal.sample-requires-clause-top
-sample-requires-clause-top c = c.loop-y.invariant.from
-
-pub sample-requires-clause-bottom : goal.sample-requires-clause-bottom
-sample-requires-clause-bottom c = c.loop-y-test.true
-
-pub sample-requires-clause-column : goal.sample-requires-clause-column
-sample-requires-clause-column c = omega (arith, c.loop-x-test.true, c.min-end.ensures)
 
 pub sample-requires-clause-fine : goal.sample-requires-clause-fine
 sample-requires-clause-fine c =
@@ -97,15 +75,6 @@ sample-requires-clause-fine c =
     let u = c.loop-y.invariant in
     block_same t l _ s.reference.0 c.loop-y.y c.loop-x.x u.from (part_is t _ s.reference.0 _ l c.rows_at-at.ensures c.index-n.ensures) block_fine s.dir
     ∙ block_fine_lem t a.t.now.sound s (slots_low s c.requires.source) l f c.loop-y.y c.loop-x.x u.from c.loop-y-test.true u.on p c.loop-x.invariant.on
-
-pub sample-requires-clause-field : goal.sample-requires-clause-field
-sample-requires-clause-field c = let t = geometry c.args.t.now in held_after t c.loop-x.invariant.same.field (held_after t c.loop-y.invariant.same.field c.requires.field)
-
-pub sample-requires-clause-trajectories : goal.sample-requires-clause-trajectories
-sample-requires-clause-trajectories c = let t = geometry c.args.t.now in traj_held_after t c.loop-x.invariant.same.trajectories (traj_held_after t c.loop-y.invariant.same.trajectories c.requires.trajectories)
-
-pub sample-requires-clause-maps : goal.sample-requires-clause-maps
-sample-requires-clause-maps c = let t = geometry c.args.t.now in map_held_after t c.loop-x.invariant.same.maps (map_held_after t c.loop-y.invariant.same.maps c.requires.maps)
 
 pub loop-x-preserved : goal.loop-x-preserved
 loop-x-preserved c =
@@ -144,17 +113,12 @@ returns-else-s-clause-stored c =
     (rest_ends t _ _ _ a.t.now.sound c.loop-y.y (parts c.loop-y.field c.loop-y.trajectories c.loop-y.maps) (parts a.field.now a.trajectories.now a.maps.now) c.loop-y.invariant (omega arith)).stored
 
 -- after the last row by the other way
-pub returns-else-s-2 : goal.returns-else-s-2
-returns-else-s-2 c =
+pub returns-else-s-2-clause-stored : goal.returns-else-s-2-clause-stored
+returns-else-s-2-clause-stored c =
     let a = c.args in let t = geometry a.t.now in let s = a.s.now in let k = a.t.now.sound in
     let there : get_or a.present.now s.reference.0 false ≡ true = rw c.index-n.ensures at c.if-not-here.false in
-    let d = row_done (goal.at.returns-else-s-2 c).Left-loop-x in
+    let d = row_done (goal.at.returns-else-s-2-clause-stored c).Left-loop-x in
     let next = parts c.loop-x-test.field c.loop-x-test.trajectories c.loop-x-test.maps in let was = parts a.field.now a.trajectories.now a.maps.now in
     let r = rest_turn t _ _ _ k c.loop-y.y (parts c.loop-y.field c.loop-y.trajectories c.loop-y.maps) was c.loop-y.invariant next c.loop-y-test.true d.same d.stored in
     let e = rest_ends t _ _ _ k (c.loop-y.y + t.step) next was r (omega arith) in
-    record {
-      same_field = e.same.field;
-      same_trajectories = e.same.trajectories;
-      same_maps = e.same.maps;
-      stored = source_on t a.traj a.present.now a.planes.now s _ (near (goal.at.returns-else-s-2 c).Else-s) there _ _ c.saturating_sub-from.ensures c.min-end.ensures _ e.stored;
-    }
+    source_on t a.traj a.present.now a.planes.now s _ (near (goal.at.returns-else-s-2-clause-stored c).Else-s) there _ _ c.saturating_sub-from.ensures c.min-end.ensures _ e.stored

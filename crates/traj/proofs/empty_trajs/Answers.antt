@@ -1,18 +1,12 @@
 -- `traj::empty_trajs` meets its contract. Assumes nothing.
 use Rattle.std.proofs.Common.{arith}
-use Rattle.store.proofs.Lent.{at_holds, at_again, at_done}
+use Rattle.store.proofs.Lent.{at_again, at_done}
 use Rattle.tile.specs.Owner.{owns}
 use Rattle.tile.specs.Tiles.{geometry}
 use Rattle.traj.specs.Traj.{empty_map, empty_trajs}
 use Rattle.traj.proofs.Lists.{both, maps_lent, all_lent}
 use Rattle.traj.proofs.Rows.{slot_prog, slot_emptied, traj_emptied, map_emptied}
 use Rattle.traj.proofs.empty_trajs.Goals as goal
-
-pub loop-n-init : goal.loop-n-init
-loop-n-init c = let t = geometry c.args.t.now in at_holds all_lent (owns t) (slot_prog t) 0 7 _
-
-pub loop-k-init : goal.loop-k-init
-loop-k-init c = let t = geometry c.args.t.now in at_holds maps_lent (owns t) (empty_map t c.loop-n.n) 0 3 _
 
 pub loop-k-preserved : goal.loop-k-preserved
 loop-k-preserved c =
@@ -27,12 +21,6 @@ loop-n-preserved c =
     (record { trajs = e.same_borrow; maps = m.invariant.like })
     (slot_emptied t l.n l.trajectories c.fill_rows.new.cells l.maps m.maps (traj_emptied t c.args.t.now.sound l.n (omega (arith, c.loop-n-test)) l.trajectories c.fill_rows.new.cells e.y e.x)
     (at_done maps_lent (owns t) (empty_map t l.n) 0 3 m.k m.maps l.maps (omega (arith, c.loop-k-test.false)) m.invariant))
-
-pub returns-clause-same_trajectories : goal.returns-clause-same_trajectories
-returns-clause-same_trajectories c = c.loop-n.invariant.like.trajs
-
-pub returns-clause-same_maps : goal.returns-clause-same_maps
-returns-clause-same_maps c = c.loop-n.invariant.like.maps
 
 pub returns-clause-stored : goal.returns-clause-stored
 unfolding empty_trajs

@@ -1,7 +1,7 @@
 -- `traj::fill_rows` meets its contract. Assumes nothing.
-use Rattle.std.proofs.Common.{refl, ◌+◌, ◌*◌, ◌≤◌, arith}
+use Rattle.std.proofs.Common.{◌+◌, ◌*◌, ◌≤◌, arith}
 use Rattle.loops.proofs.Turns.{turned, ended}
-use Rattle.store.proofs.Borrows.{same_pairs, same_pairs_after}
+use Rattle.store.proofs.Borrows.{same_pairs_after}
 use Rattle.tile.specs.Layout.{row_cells}
 use Rattle.tile.specs.Tiles.{geometry}
 use Rattle.tile.proofs.Places.{row_cells_low}
@@ -16,9 +16,6 @@ low : (g : _) → (c : After-row_at-start g) → let a = c.args in let t = geome
 low g c =
     let a = c.args in let t = geometry a.t.now in let k = a.t.now.sound in
     (rw c.row_at-start.ensures (row_end t k a.p (a.p + 1) c.loop-row.row a.b (omega arith) c.requires.columns), rw c.row_at-start.ensures (row_end t k a.p 21 c.loop-row.row a.b c.requires.plane c.requires.columns), row_cells_low t k)
-
-pub loop-row-init : goal.loop-row-init
-loop-row-init g c = (record { same = same_pairs _; from = omega arith; y = refl; x = refl }, refl)
 
 pub overflow_add-start : goal.overflow_add-start
 overflow_add-start g c = omega (arith, low g (goal.at.overflow_add-start g c).After-row_at-start, c.requires.order)
@@ -43,9 +40,6 @@ loop-row-preserved g c =
       },
       l.invariant.1,
     )
-
-pub returns-clause-same_borrow : goal.returns-clause-same_borrow
-returns-clause-same_borrow g c = c.loop-row.invariant.0.same
 
 pub returns-clause-y : goal.returns-clause-y
 returns-clause-y g c = let a = c.args in let t = geometry a.t.now in let l = c.loop-row in ended (row_filled t a.p a.a a.b a.y) t.bottom l.row _ _ (omega (arith, c.loop-row-test.false, l.invariant.1)) l.invariant.0.y

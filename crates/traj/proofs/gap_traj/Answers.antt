@@ -19,11 +19,8 @@ returns-in_default-clause-stored c =
     gap_off (geometry a.t.now) a.t.now.sound a.n c.requires.slot a.at.start a.at.end a.at.y a.at.x c.requires.sampled c.requires.step a.trajectories.now c.traj_in.result c.traj_in.ensures
     (none_empty (cell_of a.trajectories.now c.traj_in.result) c.cell.result c.cell.ensures c.in_default.is)
 
-pub put_gaps_traj-requires : goal.put_gaps_traj-requires
-put_gaps_traj-requires c =
-    let a = c.args in let t = geometry a.t.now in
-    let e = some_vector (cell_of a.trajectories.now c.traj_in.result) c.in-Some.v c.cell.result c.cell.ensures c.in-Some.is in
-    record { slot = c.requires.slot; gaps = gaps_of t a.t.now.sound a.at.start a.at.end a.at.y a.at.x c.requires.sampled c.requires.step; held = c.requires.held; some = rw (← e.1) e.0 }
+pub put_gaps_traj-requires-clause-gaps : goal.put_gaps_traj-requires-clause-gaps
+put_gaps_traj-requires-clause-gaps c = let a = c.args in gaps_of (geometry a.t.now) a.t.now.sound a.at.start a.at.end a.at.y a.at.x c.requires.sampled c.requires.step
 
 pub returns-clause-stored : goal.returns-clause-stored
 returns-clause-stored c =

@@ -1,49 +1,47 @@
 -- `traj::put_gaps_traj` meets its contract. Assumes nothing.
-use Rattle.std.proofs.Common.{◌+◌, arith}
+use Rattle.std.proofs.Common.{◌+◌, ◌<◌, arith}
 use Rattle.store.proofs.Borrows.{same_pairs_after}
 use Rattle.tile.specs.Tiles.{geometry}
 use Rattle.tile.proofs.Lent.{traj_held_after}
 use Rattle.tile.proofs.Owner.{mine_low}
 use Rattle.traj.proofs.Rows.{within_at}
 use Rattle.traj.proofs.Ways.{gaps_on}
+use Rattle.traj.proofs.put_gaps_traj.Goals.{Start}
 use Rattle.traj.proofs.put_gaps_traj.Goals as goal
 
-pub overflow_add-x : goal.overflow_add-x
-overflow_add-x c = let t = geometry c.args.t.now in let k = c.args.t.now.sound in omega (arith, mine_low t k c.args.x c.requires.gaps.here, k.stride_low)
+right : (s : Start) → s.args.x + 1 < s.args.t.now.stride
+right s = mine_low (geometry s.args.t.now) s.args.t.now.sound (s.args.x + 1) s.requires.gaps.right
 
-pub traj_in-requires : goal.traj_in-requires
-traj_in-requires c =
-    let t = geometry c.args.t.now in let k = c.args.t.now.sound in let g = c.requires.gaps in
-    record { slot = c.requires.slot; top = g.top; bottom = omega (arith, g.below); column = mine_low t k (c.args.x + 1) g.right }
+pub overflow_add-x : goal.overflow_add-x
+overflow_add-x c = omega (arith, right (goal.at.overflow_add-x c).Start, c.args.t.now.sound.stride_low)
+
+pub traj_in-requires-clause-column : goal.traj_in-requires-clause-column
+traj_in-requires-clause-column c = right (goal.at.traj_in-requires-clause-column c).Start
 
 pub put_vector-requires : goal.put_vector-requires
 put_vector-requires c =
-    let a = c.args in let t = geometry a.t.now in let k = a.t.now.sound in
-    within_at t k c.traj_in.result a.n a.y (a.x + 1) c.traj_in.ensures c.requires.slot (mine_low t k (a.x + 1) c.requires.gaps.right) _ c.requires.held
+    let a = c.args in
+    within_at (geometry a.t.now) a.t.now.sound c.traj_in.result a.n a.y (a.x + 1) c.traj_in.ensures c.requires.slot (right (goal.at.put_vector-requires c).Start) _ c.requires.held
 
-pub traj_in-requires-2 : goal.traj_in-requires-2
-traj_in-requires-2 c =
-    let t = geometry c.args.t.now in let k = c.args.t.now.sound in let g = c.requires.gaps in
-    record { slot = c.requires.slot; top = omega (arith, g.top); bottom = g.below; column = mine_low t k c.args.x g.here }
+pub traj_in-requires-2-clause-column : goal.traj_in-requires-2-clause-column
+traj_in-requires-2-clause-column c = omega (arith, right (goal.at.traj_in-requires-2-clause-column c).Start)
 
 pub put_vector-requires-2 : goal.put_vector-requires-2
 put_vector-requires-2 c =
-    let a = c.args in let t = geometry a.t.now in let k = a.t.now.sound in
-    within_at t k c.traj_in-2.result a.n (a.y + 1) a.x c.traj_in-2.ensures c.requires.slot (mine_low t k a.x c.requires.gaps.here) _
+    let a = c.args in let t = geometry a.t.now in
+    within_at t a.t.now.sound c.traj_in-2.result a.n (a.y + 1) a.x c.traj_in-2.ensures c.requires.slot (omega (arith, right (goal.at.put_vector-requires-2 c).Start)) _
     (traj_held_after t c.put_vector.ensures.same_borrow c.requires.held)
 
 pub overflow_add-x-2 : goal.overflow_add-x-2
-overflow_add-x-2 c = let t = geometry c.args.t.now in let k = c.args.t.now.sound in omega (arith, mine_low t k c.args.x c.requires.gaps.here, k.stride_low)
+overflow_add-x-2 c = omega (arith, right (goal.at.overflow_add-x-2 c).Start, c.args.t.now.sound.stride_low)
 
-pub traj_in-requires-3 : goal.traj_in-requires-3
-traj_in-requires-3 c =
-    let t = geometry c.args.t.now in let k = c.args.t.now.sound in let g = c.requires.gaps in
-    record { slot = c.requires.slot; top = omega (arith, g.top); bottom = g.below; column = mine_low t k (c.args.x + 1) g.right }
+pub traj_in-requires-3-clause-column : goal.traj_in-requires-3-clause-column
+traj_in-requires-3-clause-column c = right (goal.at.traj_in-requires-3-clause-column c).Start
 
 pub put_vector-requires-3 : goal.put_vector-requires-3
 put_vector-requires-3 c =
-    let a = c.args in let t = geometry a.t.now in let k = a.t.now.sound in
-    within_at t k c.traj_in-3.result a.n (a.y + 1) (a.x + 1) c.traj_in-3.ensures c.requires.slot (mine_low t k (a.x + 1) c.requires.gaps.right) _
+    let a = c.args in let t = geometry a.t.now in
+    within_at t a.t.now.sound c.traj_in-3.result a.n (a.y + 1) (a.x + 1) c.traj_in-3.ensures c.requires.slot (right (goal.at.put_vector-requires-3 c).Start) _
     (traj_held_after t (same_pairs_after c.put_vector-2.ensures.same_borrow c.put_vector.ensures.same_borrow) c.requires.held)
 
 pub returns-clause-stored : goal.returns-clause-stored

@@ -13,11 +13,6 @@ factor e = get_or e.source.now.ref2sf0 e.reference (pos 0)
 low : (e : Entry) → Within 507904 (factor e) → Within 507904 (pos 0 -ℤ factor e)
 low e h = within_sub (within_pos {m = 0} {n = 0} (omega arith)) h
 
-pub scaled-requires-clause-factor : goal.scaled-requires-clause-factor
-scaled-requires-clause-factor c =
-    let f : SFits w32 (factor c.args.self.now) = search rules in let g = fits_within w32 tt (low c.args.self.now c.requires.factor) in
-    simp back (low c.args.self.now c.requires.factor)
-
 pub returns : goal.returns
 unfolding to_source
 returns c =
