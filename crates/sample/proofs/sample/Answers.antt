@@ -1,8 +1,6 @@
 -- `sample::sample` meets its contract. Assumes nothing.
 use Rattle.std.proofs.Common.{◌≡◌, sym, ◌∙◌, arith, drop, ℤ, List}
-use Rattle.store.proofs.Borrows.{same_pairs_after}
 use Rattle.tile.specs.Tiles.{geometry}
-use Rattle.tile.proofs.Lent.{traj_held_after, map_held_after}
 use Rattle.project.specs.Project.{saved_at}
 use Rattle.saved.specs.Code.{saved_of}
 use Rattle.saved.proofs.Parts.{block_in, block_same}

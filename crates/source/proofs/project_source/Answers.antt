@@ -1,19 +1,16 @@
 -- `source::project_source` meets its contract. Assumes nothing.
-use Rattle.std.proofs.Common.{◌≡◌, sym, ap, ◌∙◌, true, false, ℕ, ◌-◌, ◌%◌, ◌≤◌, arith, negsuc, length, drop, length-drop, w8, SFits, rules, List, ◌+◌, ◌*◌, ◌<◌, ℤ, take, get_or}
+use Rattle.std.proofs.Common.{◌≡◌, sym, ap, ◌∙◌, true, false, ℕ, ◌-◌, ◌≤◌, arith, negsuc, length, drop, length-drop, w8, SFits, rules, List, ◌+◌, ◌*◌, ◌<◌, ℤ, take, get_or}
 use Rattle.intops.proofs.Signed.{signed!, eq_yes, eq_no}
 use Rattle.intops.specs.Choice.{eq_z}
 use Rattle.tile.specs.Geometry.{Geometry}
 use Rattle.tile.specs.Sound.{Sound}
 use Rattle.tile.specs.Tiles.{geometry}
-use Rattle.tile.proofs.Lent.{traj_held_after, map_held_after}
-use Rattle.tile.proofs.Places.{sides, block_on_step}
-use Rattle.field.proofs.Borrows.{held_after}
 use Rattle.project.specs.Project.{saved_at, sample}
 use Rattle.project.specs.Tested.{block_fine, row_fine}
 use Rattle.project.proofs.Owned.{block_fine_lem}
 use Rattle.project.proofs.Tested.{slots_low}
 use Rattle.saved.proofs.Parts.{rest, rows_in, block_same}
-use Rattle.source.proofs.Rounds.{parts, IsDone, rest_begins, rest_turn, rest_ends, readable, no_plane, too_far, source_on}
+use Rattle.source.proofs.Rounds.{parts, IsDone, rest_turn, rest_ends, readable, no_plane, too_far, source_on}
 use Rattle.source.proofs.project_source.Goals.{Else-s, Left-loop-x, else-loop-x-test, then-loop-x-test+else-x-step-end}
 use Rattle.source.proofs.project_source.Goals as goal
 
