@@ -1,7 +1,7 @@
 // The tests that a load begins with, in their order: refusals 9 to 12.
 #![tactic(auto)]
 
-ghost use Rattle.std.specs.Prelude.{◌≡◌, true, cond, ◌&&◌, List, [], ◌+◌, ◌-◌, ◌*◌, ◌/◌, ◌≤◌, ◌<◌, ℤ, pos, negsuc, length, get_or, MatchResult};
+ghost use Rattle.std.specs.Prelude.{◌≡◌, true, cond, ◌&&◌, List, [], ◌+◌, ◌-◌, ◌*◌, ◌/◌, ◌≤◌, ◌<◌, leb, ℤ, pos, negsuc, nat_abs, length, get_or, MatchResult};
 ghost use Rattle.levels.specs.Answer.{number_of};
 ghost use Rattle.frame.specs.Frame.{no_source};
 ghost use Rattle.store.specs.Store.{Store, vec};
@@ -40,21 +40,20 @@ fn distance_or_skip(z: i8) -> bool
     (-32..=31).contains(&z)
 }
 
-// What a source says of reference k: its distance, its slot, the two factors.
-fn entry_in_range(s: &Source, k: usize) -> bool
-    requires { k < 7 }
-    ensures { result ≡ entry_in_range s.now k }
+// What a source says of a reference: its distance, its slot, the two factors.
+fn entry_in_range(d: i8, idx: i8, sf0: i32, sf1: i32) -> bool
+    ensures { result ≡ (leb (nat_abs d) 31 && within (negsuc 0) (pos 6) idx && leb (nat_abs sf0) 507904 && leb (nat_abs sf1) 507904) }
 {
-    (s.ref2ref[k].unsigned_abs() <= 31)
-        & slot_or_none(s.ref2idx[k])
-        & (s.ref2sf0[k].unsigned_abs() <= 507904)
-        & (s.ref2sf1[k].unsigned_abs() <= 507904)
+    (d.unsigned_abs() <= 31)
+        & slot_or_none(idx)
+        & (sf0.unsigned_abs() <= 507904)
+        & (sf1.unsigned_abs() <= 507904)
 }
 
 fn entries_in_range(s: &Source) -> bool
     ensures { result ≡ all_below 7 (entry_in_range s.now) }
 {
-    (0..7).all(|k| entry_in_range(s, k))
+    (0..7).all(|k| entry_in_range(s.ref2ref[k], s.ref2idx[k], s.ref2sf0[k], s.ref2sf1[k]))
 }
 
 #[tactic(auto, unfolding(project::specs::Tested::source_in_range))]
