@@ -137,6 +137,7 @@ fn edge_of(setup: &Frame) -> usize
 pub fn wide_of(setup: &Frame) -> usize
     ensures { result ≡ wide_of setup.now }
 {
+    // No `From` takes a u32 to a usize.
     (setup.width as usize).div_ceil(8)
 }
 
@@ -145,6 +146,7 @@ pub fn high_of(setup: &Frame) -> usize
     ensures value { result ≡ high_of setup.now }
     ensures low { result ≤ 536870912 }
 {
+    // A cast, as for the width.
     (setup.height as usize).div_ceil(8)
 }
 
@@ -153,6 +155,7 @@ pub fn stride_of(setup: &Frame) -> usize
     ensures value { result ≡ stride_of setup.now }
     ensures low { result ≤ 536870912 }
 {
+    // A cast, as for the width.
     (setup.width as usize).next_multiple_of(256) / 8
 }
 
@@ -273,7 +276,8 @@ pub fn check_lengths(
 // A block has no reference, or one of the seven and a vector that is the mark as a whole or not at all.
 // The tests of a block are joined without branches: this runs for each sampled block.
 fn block_fine(planes: &[i8], at: usize, dir: usize) -> bool
-    requires { (at + 6 ≤ length planes.now) × (dir < 2) }
+    requires block { at + 6 ≤ length planes.now }
+    requires direction { dir < 2 }
     ensures { result ≡ block_fine (saved_ref planes.now at dir) (saved_mv planes.now at dir) }
 {
     let r = planes[at + 4 + dir];
@@ -285,7 +289,9 @@ fn block_fine(planes: &[i8], at: usize, dir: usize) -> bool
 // The sampled blocks of row y, also those outside the tile's columns: projection reads them.
 fn line_fine(planes: &[i8], t: &Tile, slot: usize, dir: usize, y: usize) -> bool
     requires planes { PlanesHeld (geometry t.now) planes.now }
-    requires inside { (slot < 7) × (dir < 2) × (y < t.now.high) }
+    requires slot { slot < 7 }
+    requires direction { dir < 2 }
+    requires row { y < t.now.high }
     ensures { result ≡ line_fine (geometry t.now) planes.now slot dir y }
 {
     let n = t.count(0, t.wide);
@@ -299,7 +305,8 @@ fn line_fine(planes: &[i8], t: &Tile, slot: usize, dir: usize, y: usize) -> bool
 
 fn row_fine(planes: &[i8], t: &Tile, slot: usize, dir: usize) -> bool
     requires planes { PlanesHeld (geometry t.now) planes.now }
-    requires inside { (slot < 7) × (dir < 2) }
+    requires slot { slot < 7 }
+    requires direction { dir < 2 }
     ensures { result ≡ all_below ((t.now.bottom - t.now.top + (t.now.step - 1)) / t.now.step) (λ j. line_fine (geometry t.now) planes.now slot dir (t.now.top + j * t.now.step)) }
 {
     let n = t.count(t.top, t.bottom);
@@ -313,7 +320,8 @@ fn row_fine(planes: &[i8], t: &Tile, slot: usize, dir: usize) -> bool
 // A source that is skipped, or whose plane is not present, is not looked at.
 fn source_fine(planes: &[i8], t: &Tile, present: bool, s: &Source) -> bool
     requires planes { PlanesHeld (geometry t.now) planes.now }
-    requires inside { (s.now.reference.0 < 7) × (s.now.dir < 2) }
+    requires slot { s.now.reference.0 < 7 }
+    requires direction { s.now.dir < 2 }
     ensures { result ≡ is_fine (geometry t.now) planes.now present s.now }
 {
     if s.ref2cur == -32 || !present {

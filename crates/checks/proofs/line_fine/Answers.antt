@@ -12,7 +12,7 @@ use Rattle.checks.proofs.line_fine.Goals as goal
 
 -- what is known where the row begins, and of a block of it
 row : (s : Start) → let t = s.args.t.now in (s.args.slot * t.high + s.args.y < 57344) × ((s.args.slot * t.high + s.args.y) * t.stride + t.stride ≤ 7 * (t.high * t.stride))
-row s = let t = s.args.t.now in let k = t.sound in let w = line_within (geometry t) s.args.slot s.args.y s.requires.inside.0 s.requires.inside.2 in (omega (arith, w.0, k.high_low), w.1)
+row s = let t = s.args.t.now in let k = t.sound in let w = line_within (geometry t) s.args.slot s.args.y s.requires.slot s.requires.row in (omega (arith, w.0, k.high_low), w.1)
 
 col : (c : In-loop-i) → let t = c.args.t.now in c.loop-i.i * t.step < t.stride
 col c =
@@ -26,8 +26,8 @@ pub loop-i-init : goal.loop-i-init
 unfolding all_below
 loop-i-init c = (omega arith, refl)
 
-pub block_fine-ok-requires : goal.block_fine-ok-requires
-block_fine-ok-requires c = (omega (arith, col c, row (goal.at.block_fine-ok-requires c).Start, c.requires.planes), c.requires.inside.1)
+pub block_fine-ok-requires-clause-block : goal.block_fine-ok-requires-clause-block
+block_fine-ok-requires-clause-block c = omega (arith, col (goal.at.block_fine-ok-requires-clause-block c).In-loop-i, row (goal.at.block_fine-ok-requires-clause-block c).Start, c.requires.planes)
 
 pub loop-i-preserved : goal.loop-i-preserved
 loop-i-preserved c =

@@ -24,8 +24,8 @@ pub loop-j-init : goal.loop-j-init
 unfolding all_below
 loop-j-init c = (omega arith, refl)
 
-pub line_fine-ok-requires-clause-inside : goal.line_fine-ok-requires-clause-inside
-line_fine-ok-requires-clause-inside c = let k = c.args.t.now.sound in (c.requires.inside.0, c.requires.inside.1, omega (arith, below (goal.at.line_fine-ok-requires-clause-inside c).In-loop-j, k.frame_end))
+pub line_fine-ok-requires-clause-row : goal.line_fine-ok-requires-clause-row
+line_fine-ok-requires-clause-row c = omega (arith, below (goal.at.line_fine-ok-requires-clause-row c).In-loop-j, c.args.t.now.sound.frame_end)
 
 pub loop-j-preserved : goal.loop-j-preserved
 loop-j-preserved c =

@@ -27,8 +27,11 @@ bounds-sources-n c = omega (arith, c.loop-n-test.true, (in_range c.args.setup.no
 pub bounds-setup-index : goal.bounds-setup-index
 bounds-setup-index c = omega (arith, c.index.ensures, (low (goal.at.bounds-setup-index c).In-loop-n).reference)
 
-pub source_fine-ok-requires-clause-inside : goal.source_fine-ok-requires-clause-inside
-source_fine-ok-requires-clause-inside c = let w = low (goal.at.source_fine-ok-requires-clause-inside c).In-loop-n in (w.reference, w.dir)
+pub source_fine-ok-requires-clause-slot : goal.source_fine-ok-requires-clause-slot
+source_fine-ok-requires-clause-slot c = (low (goal.at.source_fine-ok-requires-clause-slot c).In-loop-n).reference
+
+pub source_fine-ok-requires-clause-direction : goal.source_fine-ok-requires-clause-direction
+source_fine-ok-requires-clause-direction c = (low (goal.at.source_fine-ok-requires-clause-direction c).In-loop-n).dir
 
 pub loop-n-preserved : goal.loop-n-preserved
 loop-n-preserved c =
