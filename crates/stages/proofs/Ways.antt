@@ -1,5 +1,5 @@
 -- The ways through a load's groups of passes: what each pass does to the store before it is given. Assumes nothing.
-use Rattle.std.proofs.Common.{◌≡◌, refl, ap, ◌∙◌, Bool, true, false, true≢false, not, ◌⊎◌, inl, inr, ◌≤◌, ◌<◌, arith, eqb, ltb, ne_eqb, lt-ltb, le-ltb}
+use Rattle.std.proofs.Common.{◌≡◌, ap, ◌∙◌, true, false, not, ◌⊎◌, inl, inr, ◌≤◌, ◌<◌, arith, eqb, ltb, ne_eqb, lt-ltb, le-ltb}
 use Rattle.store.specs.Store.{Store}
 use Rattle.store.specs.Program.{Prog, run, when, each}
 use Rattle.store.proofs.Switch.{off}
@@ -18,10 +18,6 @@ step_two t k h = go (step_kind t k)
     go : (t.step ≡ 1) ⊎ (t.step ≡ 2) → t.step ≡ 2
     go (inl e) = absurd (omega arith)
     go (inr e) = e
-
-pub not_off : (b : Bool) → not b ≡ false → b ≡ true
-not_off true h = refl
-not_off false h = absurd (true≢false h)
 
 module _ (t : Geometry) (c : Call) where
   abbrev pub tips_if : Prog

@@ -2,7 +2,7 @@
 // what its arms did to the store is not known to the calls after it.
 #![tactic(auto)]
 
-ghost use Rattle.std.specs.Prelude.{◌≡◌, false, not, List, ◌*◌, ◌≤◌, eqb, ltb, ℤ};
+ghost use Rattle.std.specs.Prelude.{◌≡◌, false, not, ◌*◌, ◌≤◌, eqb, ltb};
 ghost use Rattle.store.specs.Lent.{IsSamePairs, with_trajs, stored_trajs};
 ghost use Rattle.store.specs.Store.{Store};
 ghost use Rattle.store.specs.Program.{run, when, each};
@@ -12,12 +12,9 @@ ghost use Rattle.tile.specs.Tiles.{geometry};
 ghost use Rattle.field.specs.Field.{copy_above};
 ghost use Rattle.field.specs.Lent.{IsHeld, IsSameField, stored};
 ghost use Rattle.traj.specs.Traj.{empty_trajs, fill_gap_traj};
-ghost use Rattle.load.specs.Asked.{call_of};
-ghost use Rattle.load.specs.Load.{tip_passes, gap_passes};
+ghost use Rattle.load.specs.Load.{Call, tip_passes, gap_passes};
 
 use field::Field;
-use frame::Frame;
-use load::Asked;
 use store::Pairs;
 use tile::Tile;
 
@@ -60,18 +57,18 @@ pub fn clear_trajs(
 /// With TIP mode not 0: the field is projected to the TIP distance, and where holes are filled,
 /// filled and smoothed.
 #[tactic(auto, using(field::proofs::Borrows::same_field))]
-pub fn tip_passes(field: &mut Field<'_>, t: &Tile, setup: &Frame, asked: Asked)
+pub fn tip_passes(field: &mut Field<'_>, t: &Tile, mode: u8, delta: i8, holes: bool)
     requires held { IsHeld (geometry t.now) field.old }
     ensures same_borrow { IsSameField field.new field.old }
-    ensures stored { (p : List ℤ) (s : Store) → let c = call_of setup.now asked p in stored s field.new
+    ensures stored { (c : Call) → c.setup.tip_frame_mode ≡ mode → c.setup.tip.delta ≡ delta → c.holes ≡ holes
+        → (s : Store) → stored s field.new
         ≡ run (owns (geometry t.now)) (when (not (eqb c.setup.tip_frame_mode 0)) (tip_passes (geometry t.now) c)) (stored s field.old) }
 {
-    if setup.tip_frame_mode == 0 {
+    if mode == 0 {
         return;
     }
-    let delta = setup.tip.delta;
     field::tip_projection(field, t, delta);
-    if !asked.holes {
+    if !holes {
         return;
     }
     holes::fill_holes(field, t, delta);
@@ -95,20 +92,20 @@ pub fn fill_gap_trajs(trajectories: &mut Pairs<'_, i32>, t: &Tile, n_refs: usize
 /// With step 2: the gaps between samples, of the trajectories whether they are on or not, and of
 /// the field.
 #[tactic(auto, using(field::proofs::Borrows::same_field, store::proofs::Borrows::same_pairs))]
-pub fn gap_passes(field: &mut Field<'_>, trajectories: &mut Pairs<'_, i32>, t: &Tile, setup: &Frame)
-    requires slots { setup.now.n_refs ≤ 7 }
+pub fn gap_passes(field: &mut Field<'_>, trajectories: &mut Pairs<'_, i32>, t: &Tile, n_refs: usize)
+    requires slots { n_refs ≤ 7 }
     requires field { IsHeld (geometry t.now) field.old }
     requires trajectories { IsTrajHeld (geometry t.now) trajectories.old }
     ensures same_field { IsSameField field.new field.old }
     ensures same_trajectories { IsSamePairs trajectories.new trajectories.old }
-    ensures stored { (a : Asked) (p : List ℤ) (s : Store) → let c = call_of setup.now a p in
-        stored (with_trajs s trajectories.new) field.new
+    ensures stored { (c : Call) → c.setup.n_refs ≡ n_refs
+        → (s : Store) → stored (with_trajs s trajectories.new) field.new
         ≡ run (owns (geometry t.now)) (when (ltb 1 t.now.step) (gap_passes (geometry t.now) c)) (stored (with_trajs s trajectories.old) field.old) }
 {
     let step = t.step;
     if step < 2 {
         return;
     }
-    fill_gap_trajs(trajectories, t, setup.n_refs);
+    fill_gap_trajs(trajectories, t, n_refs);
     gaps::fill_gap_proj(field, t);
 }
