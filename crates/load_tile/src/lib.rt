@@ -49,6 +49,6 @@ pub fn load_tile(
     field::empty_field(field, t);
     stages::clear_trajs(trajectories, maps, t, asked.traj);
     sources::project_sources(field, trajectories, maps, planes, t, setup, asked);
-    stages::tip_passes(field, t, setup, asked);
-    stages::gap_passes(field, trajectories, t, setup);
+    stages::tip_passes(field, t, setup.tip_frame_mode, setup.tip.delta, asked.holes);
+    stages::gap_passes(field, trajectories, t, setup.n_refs);
 }

@@ -1,4 +1,5 @@
 -- `load_tile::load_tile` meets its contract. Assumes nothing.
+use Rattle.std.proofs.Common.{refl, sym, to_z-of_z, w8, SFits, rules}
 use Rattle.store.proofs.Borrows.{same_pairs_after}
 use Rattle.tile.specs.Tiles.{geometry}
 use Rattle.tile.proofs.Lent.{traj_held_after, map_held_after}
@@ -64,4 +65,5 @@ returns-clause-stored c =
     let u₂ = store_of k2.new.field a.trajectories.now a.maps.now in
     let u₄ = store_of k4.new.field k4.new.trajectories k4.new.maps in
     let u₅ = store_of k5.new.field k4.new.trajectories k4.new.maps in
-    in_order (geometry a.t.now) (call_of a.setup.now a.asked p) u₀ u₁ u₂ _ u₄ u₅ _ (k1.ensures.stored u₀) (k2.ensures.stored u₁) (k3.ensures.stored u₂) k4.ensures.stored (k5.ensures.stored p u₄) (k6.ensures.stored a.asked p u₅)
+    let q = call_of a.setup.now a.asked p in let d : SFits w8 a.setup.now.tip.delta = search rules in
+    in_order (geometry a.t.now) q u₀ u₁ u₂ _ u₄ u₅ _ (k1.ensures.stored u₀) (k2.ensures.stored u₁) (k3.ensures.stored u₂) k4.ensures.stored (k5.ensures.stored q refl (sym (to_z-of_z d)) refl u₄) (k6.ensures.stored q refl u₅)
