@@ -1,5 +1,5 @@
 -- `passes::pass_project_source` meets its contract. Assumes nothing.
-use Rattle.std.proofs.Common.{rules, ◌≡◌, Bool, false, List, ℕ, ◌<◌, ℤ, get_or, replicate}
+use Rattle.std.proofs.Common.{rules, ◌≡◌, Bool, false, List, ◌<◌, ℤ, get_or, replicate}
 use Rattle.std.proofs.lemmas.List.{get_or-replicate}
 use Rattle.entry.specs.declared.Source.{Source}
 use Rattle.tile.specs.Geometry.{Geometry}
@@ -18,4 +18,4 @@ pub returns : goal.returns
 returns c =
     λ held h. let a = c.args in let e = c.project_source.ensures.stored in
     let x = c.project_source.ensures.same_field in let y = c.project_source.ensures.same_trajectories in let z = c.project_source.ensures.same_maps in
-    rw (one_plane (geometry a.t) a.traj a.present held a.planes.now a.s (slots_low a.s c.requires.sound.0).reference h) (search rules)
+    rw (one_plane (geometry a.t) a.traj a.present held a.planes.now a.s (slots_low a.s c.requires.source).reference h) (search rules)
