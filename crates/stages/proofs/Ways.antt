@@ -1,30 +1,16 @@
 -- The ways through a load's groups of passes: what each pass does to the store before it is given. Assumes nothing.
-use Rattle.std.proofs.Common.{◌≡◌, ap, ◌∙◌, true, false, not, ◌⊎◌, inl, inr, ◌≤◌, ◌<◌, arith, eqb, ltb, ne_eqb, lt-ltb, le-ltb}
+use Rattle.std.proofs.Common.{◌≡◌, ap, ◌∙◌, true, false, not, ◌≤◌, arith, eqb, ltb, ne_eqb, lt-ltb}
 use Rattle.store.specs.Store.{Store}
 use Rattle.store.specs.Program.{Prog, run, when, each}
-use Rattle.store.proofs.Switch.{off}
 use Rattle.tile.specs.Geometry.{Geometry}
 use Rattle.tile.specs.Owner.{owns}
-use Rattle.tile.specs.Sound.{Sound}
-use Rattle.tile.proofs.Places.{step_kind}
 use Rattle.field.specs.Field.{tip_projection, fill_holes, smoothen, fill_gap_proj}
 use Rattle.traj.specs.Traj.{fill_gap_traj}
 use Rattle.load.specs.Load.{Call, tip_passes, gap_passes}
 
--- a step that is not 1
-pub step_two : (t : Geometry) → Sound t → 2 ≤ t.step → t.step ≡ 2
-step_two t k h = go (step_kind t k)
-  where
-    go : (t.step ≡ 1) ⊎ (t.step ≡ 2) → t.step ≡ 2
-    go (inl e) = absurd (omega arith)
-    go (inr e) = e
-
 module _ (t : Geometry) (c : Call) where
   abbrev pub tips_if : Prog
   tips_if = when (not (eqb c.setup.tip_frame_mode 0)) (tip_passes t c)
-
-  pub tips_off : c.setup.tip_frame_mode ≡ 0 → (u : Store) → u ≡ run (owns t) tips_if u
-  tips_off z u = rw z
 
   module _ (some : c.setup.tip_frame_mode ≡ 0 → ⊥) (u u₁ : Store) (p₁ : u₁ ≡ run (owns t) (tip_projection t c.setup.tip.delta) u) where
     pub tips_one : c.holes ≡ false → u₁ ≡ run (owns t) tips_if u
@@ -38,9 +24,6 @@ module _ (t : Geometry) (c : Call) where
 
   abbrev pub gaps_if : Prog
   gaps_if = when (ltb 1 t.step) (gap_passes t c)
-
-  pub gaps_off : t.step < 2 → (u : Store) → u ≡ run (owns t) gaps_if u
-  gaps_off h u = off (owns t) (ltb 1 t.step) (gap_passes t c) (le-ltb 1 t.step (omega arith)) u
 
   pub gaps_on : 2 ≤ t.step → (u u₁ u₂ : Store) → u₁ ≡ run (owns t) (each 0 c.setup.n_refs (fill_gap_traj t)) u → u₂ ≡ run (owns t) (fill_gap_proj t) u₁ → u₂ ≡ run (owns t) gaps_if u
   unfolding gap_passes

@@ -1,5 +1,5 @@
-// The groups of a load's passes. Each switch stands in a function of its own: where an `if` joins,
-// what its arms did to the store is not known to the calls after it.
+// A load's passes in groups, each under its switch. The switches stand here, and not as an `if` in `load_tile`: these functions are
+// public, and their clauses state the switch, so that it would be written twice.
 #![tactic(auto)]
 
 ghost use Rattle.std.specs.Prelude.{◌≡◌, false, not, ◌*◌, ◌≤◌, eqb, ltb};
@@ -27,10 +27,9 @@ pub fn copy_rows(field: &mut Field<'_>, t: &Tile, whole_frame: bool)
     ensures stored { (s : Store) → stored s field.new
         ≡ run (owns (geometry t.now)) (when (not whole_frame) (copy_above (geometry t.now))) (stored s field.old) }
 {
-    if whole_frame {
-        return;
+    if !whole_frame {
+        field::copy_above(field, t);
     }
-    field::copy_above(field, t);
 }
 
 /// Trajectories and maps are emptied where trajectories are on.
@@ -48,10 +47,9 @@ pub fn clear_trajs(
     ensures stored { (s : Store) → stored_trajs s trajectories.new maps.new
         ≡ run (owns (geometry t.now)) (when traj (empty_trajs (geometry t.now))) (stored_trajs s trajectories.old maps.old) }
 {
-    if !traj {
-        return;
+    if traj {
+        traj::empty_trajs(trajectories, maps, t);
     }
-    traj::empty_trajs(trajectories, maps, t);
 }
 
 /// With TIP mode not 0: the field is projected to the TIP distance, and where holes are filled,
@@ -64,15 +62,13 @@ pub fn tip_passes(field: &mut Field<'_>, t: &Tile, mode: u8, delta: i8, holes: b
         → (s : Store) → stored s field.new
         ≡ run (owns (geometry t.now)) (when (not (eqb c.setup.tip_frame_mode 0)) (tip_passes (geometry t.now) c)) (stored s field.old) }
 {
-    if mode == 0 {
-        return;
+    if mode != 0 {
+        field::tip_projection(field, t, delta);
+        if holes {
+            holes::fill_holes(field, t, delta);
+            smooth::smoothen(field, t, delta);
+        }
     }
-    field::tip_projection(field, t, delta);
-    if !holes {
-        return;
-    }
-    holes::fill_holes(field, t, delta);
-    smooth::smoothen(field, t, delta);
 }
 
 /// The trajectories of the slots in use.
@@ -102,10 +98,8 @@ pub fn gap_passes(field: &mut Field<'_>, trajectories: &mut Pairs<'_, i32>, t: &
         → (s : Store) → stored (with_trajs s trajectories.new) field.new
         ≡ run (owns (geometry t.now)) (when (ltb 1 t.now.step) (gap_passes (geometry t.now) c)) (stored (with_trajs s trajectories.old) field.old) }
 {
-    let step = t.step;
-    if step < 2 {
-        return;
+    if 1 < t.step {
+        fill_gap_trajs(trajectories, t, n_refs);
+        gaps::fill_gap_proj(field, t);
     }
-    fill_gap_trajs(trajectories, t, n_refs);
-    gaps::fill_gap_proj(field, t);
 }
