@@ -1,5 +1,5 @@
 // What C and Rust call of refmvs: each export calls the library's function of that name and states its clauses again.
-// include/refmvs.h declares them.
+// include/refmvs.h declares them. They are stated again since no crate can call a static library: the C interface.
 #![tactic(auto)]
 
 ghost use Rattle.mv.specs.Projection.{mv_projection, scale_mv};
@@ -17,6 +17,7 @@ ghost use Rattle.c_setup.specs.Setup.{on, header_of, given_by, frame_of};
 use c_setup::{CFrame, CHeader, CSetup};
 use levels::OrderHint;
 
+/// Projects the vector (`y`, `x`) by `num` over `den`, clipped to `min` and `max`: refusal 1, or the vector in `out`.
 #[unsafe(no_mangle)]
 pub extern "C" fn refmvs_mv_projection(
     y: i32,
@@ -32,6 +33,7 @@ pub extern "C" fn refmvs_mv_projection(
     refmvs::refmvs_mv_projection(y, x, num, den, min, max, out)
 }
 
+/// Scales the vector (`y`, `x`) by the factor `sf`: refusal 1, or the vector in `out`.
 #[unsafe(no_mangle)]
 pub extern "C" fn refmvs_scale_mv(y: i32, x: i32, sf: i32, out: &mut [i32; 2]) -> u32
     ensures { Gives (scale_mv (record { y = y; x = x }) sf) result out.old out.new }
@@ -39,6 +41,7 @@ pub extern "C" fn refmvs_scale_mv(y: i32, x: i32, sf: i32, out: &mut [i32; 2]) -
     refmvs::refmvs_scale_mv(y, x, sf, out)
 }
 
+/// Unpacks the packed vector (`y`, `x`): refusal 2, or the vector in `out`.
 #[unsafe(no_mangle)]
 pub extern "C" fn refmvs_dequantize_mv(y: i8, x: i8, out: &mut [i32; 2]) -> u32
     ensures { Gives (unpacked (record { y = y; x = x })) result out.old out.new }
@@ -46,7 +49,7 @@ pub extern "C" fn refmvs_dequantize_mv(y: i8, x: i8, out: &mut [i32; 2]) -> u32
     refmvs::refmvs_dequantize_mv(y, x, out)
 }
 
-// Packing refuses nothing: what has no code is the mark.
+/// Packs the vector (`y`, `x`) into `out`. It refuses nothing: what has no code is the mark.
 #[unsafe(no_mangle)]
 pub extern "C" fn refmvs_quantize_mv(y: i32, x: i32, out: &mut [i8; 2]) -> u32
     ensures { GivesBytes (packed (record { y = y; x = x })) result out.old out.new }
@@ -54,6 +57,7 @@ pub extern "C" fn refmvs_quantize_mv(y: i32, x: i32, out: &mut [i8; 2]) -> u32
     refmvs::refmvs_quantize_mv(y, x, out)
 }
 
+/// The hint `poc0` less the hint `poc1`, with `order_hint_n_bits` bits: refusal 3, or the difference in `out`.
 #[unsafe(no_mangle)]
 pub extern "C" fn refmvs_get_poc_diff(
     order_hint_n_bits: u32,
@@ -66,6 +70,7 @@ pub extern "C" fn refmvs_get_poc_diff(
     refmvs::refmvs_get_poc_diff(order_hint_n_bits, poc0, poc1, out)
 }
 
+/// The setup of a frame with this header, or the first of the refusals 3 to 8 with a setup of zeros.
 #[unsafe(no_mangle)]
 pub extern "C" fn refmvs_init_frame(header: CHeader) -> CSetup
     ensures { given_by result ≡ setup_of (header_of header) }
@@ -73,7 +78,8 @@ pub extern "C" fn refmvs_init_frame(header: CHeader) -> CSetup
     refmvs::refmvs_init_frame(header)
 }
 
-// A load of a tile. The lent slices may be longer than 01 states; a refused call leaves them as they were.
+/// Loads a tile, or answers the first of the refusals 9 to 12. The lent slices may be longer than 01 states; a refused call leaves them
+/// as they were.
 #[unsafe(no_mangle)]
 pub extern "C" fn refmvs_load_tmvs(
     field_y: &mut [i32],
@@ -93,11 +99,11 @@ pub extern "C" fn refmvs_load_tmvs(
     row_start: usize,
     row_end: usize,
 ) -> u32
-    ensures { let c = call_of (frame_of setup) (asked_of (on whole_frame) (on traj) (on holes) col_start col_end row_start row_end) planes.now in
-        let s = pack field_y.old field_x.old field_ref.old traj_y.old traj_x.old map_y.old map_x.old in
-        (result ≡ answer c s)
-        × (pack field_y.new field_x.new field_ref.new traj_y.new traj_x.new map_y.new map_x.new
-        ≡ called answer load c s) }
+    ensures answer { let c = call_of (frame_of setup) (asked_of (on whole_frame) (on traj) (on holes) col_start col_end row_start row_end) planes.now in
+        result ≡ answer c (pack field_y.old field_x.old field_ref.old traj_y.old traj_x.old map_y.old map_x.old) }
+    ensures stored { let c = call_of (frame_of setup) (asked_of (on whole_frame) (on traj) (on holes) col_start col_end row_start row_end) planes.now in
+        pack field_y.new field_x.new field_ref.new traj_y.new traj_x.new map_y.new map_x.new
+        ≡ called answer load c (pack field_y.old field_x.old field_ref.old traj_y.old traj_x.old map_y.old map_x.old) }
 {
     refmvs::refmvs_load_tmvs(
         field_y,
