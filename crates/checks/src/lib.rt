@@ -73,7 +73,7 @@ fn sources_in_range(sources: &Sources) -> bool
     ensures { result ≡ all_below sources.now.n_mfmvs (λ n. source_in_range (get_or sources.now.mfmv n no_source)) }
 {
     let mut ok = true;
-    // By index: nothing is known of the length of an array in a struct when a part of it is walked.
+    // By index (tried: nothing is known of the length of an array of structs in a struct when a part of it is walked).
     for n in 0..sources.n_mfmvs {
         ok &= source_in_range(&sources.mfmv[n]);
     }
@@ -338,7 +338,7 @@ fn sources_fine(planes: &[i8], t: &Tile, setup: &Frame) -> bool
 {
     let sources = &setup.sources;
     let mut ok = true;
-    // By index, as above.
+    // By index, as in `sources_in_range`.
     for n in 0..sources.n_mfmvs {
         let s = &sources.mfmv[n];
         let present = setup.rp_ref[s.reference.index()];
@@ -362,6 +362,7 @@ fn trajs_in_range(trajectories: &Pairs<'_, i32>, n: usize) -> bool
     ensures { result ≡ all_below n (λ i. traj_in_range (vec (get_or trajectories.now.y.now i (pos 0)) (get_or trajectories.now.x.now i (pos 0)))) }
 {
     let mut ok = true;
+    // By index: `vector` reads both lists, which a zip of their parts would do here.
     for i in 0..n {
         ok &= traj_in_range(trajectories.vector(i));
     }

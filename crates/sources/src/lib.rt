@@ -43,7 +43,7 @@ pub fn project_sources(
 {
     let present = &setup.rp_ref;
     let sources = &setup.sources;
-    // By index: nothing is known of the length of an array in a struct when a part of it is walked.
+    // By index (tried: nothing is known of the length of an array of structs in a struct when a part of it is walked).
     for n in 0..sources.n_mfmvs {
         let s = &sources.mfmv[n];
         source::project_source(field, trajectories, maps, planes, t, asked.traj, present, s);

@@ -3,7 +3,7 @@ use Rattle.std.proofs.Common.{ap, refl, ℕ, ◌*◌, arith, rules}
 use Rattle.std.proofs.Math.Nat.{sub-zero}
 use Rattle.levels.specs.Answer.{number_of}
 use Rattle.levels.proofs.Refusals.{number_pos}
-use Rattle.sources.proofs.Rounds.{IsSameParts, parts, same_parts_after}
+use Rattle.sources.proofs.Rounds.{IsSameParts, parts}
 use Rattle.loads.specs.Frame.{rows_of, rows_calls, frame_calls}
 use Rattle.loads.proofs.Frame.{going_first, rows_on, rows_stop, rows_end, rows_are, Low, low}
 use Rattle.loads.proofs.load_frame.Goals.{After-load_row, In-loop-i}
@@ -24,15 +24,6 @@ loop-i-init c = let a = c.args in rw sub-zero (going_first (rows_calls a.setup.n
 pub load_row-requires : goal.load_row-requires
 load_row-requires c = (lows (goal.at.load_row-requires c).In-loop-i).row
 
-pub returns-in_err-load_row-clause-same_field : goal.returns-in_err-load_row-clause-same_field
-returns-in_err-load_row-clause-same_field c = (same_parts_after (same (goal.at.returns-in_err-load_row-clause-same_field c).After-load_row) c.loop-i.invariant.like).field
-
-pub returns-in_err-load_row-clause-same_trajectories : goal.returns-in_err-load_row-clause-same_trajectories
-returns-in_err-load_row-clause-same_trajectories c = (same_parts_after (same (goal.at.returns-in_err-load_row-clause-same_trajectories c).After-load_row) c.loop-i.invariant.like).trajs
-
-pub returns-in_err-load_row-clause-same_maps : goal.returns-in_err-load_row-clause-same_maps
-returns-in_err-load_row-clause-same_maps c = (same_parts_after (same (goal.at.returns-in_err-load_row-clause-same_maps c).After-load_row) c.loop-i.invariant.like).maps
-
 pub returns-in_err-load_row-clause-loaded : goal.returns-in_err-load_row-clause-loaded
 returns-in_err-load_row-clause-loaded c =
     let a = c.args in let l = c.loop-i in let k = c.load_row in let r = c.in_err-load_row in
@@ -43,15 +34,6 @@ pub loop-i-preserved : goal.loop-i-preserved
 loop-i-preserved c =
     let a = c.args in let l = c.loop-i in let k = c.load_row in
     rows_on a.setup.now a.traj a.holes a.planes.now a.ends.now l.i _ 0 _ (parts l.field l.trajectories l.maps) (parts k.new.field k.new.trajectories k.new.maps) _ (lows (goal.at.loop-i-preserved c).In-loop-i).below (ap (λ (d : ℕ). l.i * d) c.side_of-side.ensures.value) (rw c.in_ok-load_row.was at k.ensures.loaded) refl (same (goal.at.loop-i-preserved c).After-load_row) l.invariant
-
-pub returns-clause-same_field : goal.returns-clause-same_field
-returns-clause-same_field c = c.loop-i.invariant.like.field
-
-pub returns-clause-same_trajectories : goal.returns-clause-same_trajectories
-returns-clause-same_trajectories c = c.loop-i.invariant.like.trajs
-
-pub returns-clause-same_maps : goal.returns-clause-same_maps
-returns-clause-same_maps c = c.loop-i.invariant.like.maps
 
 pub returns-clause-loaded : goal.returns-clause-loaded
 returns-clause-loaded c =

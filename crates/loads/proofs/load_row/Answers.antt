@@ -2,7 +2,7 @@
 use Rattle.std.proofs.Common.{ap, refl, ℕ, ◌+◌, arith, rules}
 use Rattle.levels.specs.Answer.{number_of}
 use Rattle.levels.proofs.Refusals.{number_pos}
-use Rattle.sources.proofs.Rounds.{IsSameParts, parts, same_parts_after}
+use Rattle.sources.proofs.Rounds.{IsSameParts, parts}
 use Rattle.loads.proofs.Frame.{going_first, row_on, row_stop, row_end}
 use Rattle.loads.proofs.load_row.Goals.{After-load_tmvs}
 use Rattle.loads.proofs.load_row.Goals as goal
@@ -14,15 +14,6 @@ same c = let e = c.load_tmvs.ensures in record { field = e.same_field; trajs = e
 pub loop-end-init : goal.loop-end-init
 loop-end-init c = going_first _ _
 
-pub returns-in_err-load_tmvs-clause-same_field : goal.returns-in_err-load_tmvs-clause-same_field
-returns-in_err-load_tmvs-clause-same_field c = (same_parts_after (same (goal.at.returns-in_err-load_tmvs-clause-same_field c).After-load_tmvs) c.loop-end.invariant.like).field
-
-pub returns-in_err-load_tmvs-clause-same_trajectories : goal.returns-in_err-load_tmvs-clause-same_trajectories
-returns-in_err-load_tmvs-clause-same_trajectories c = (same_parts_after (same (goal.at.returns-in_err-load_tmvs-clause-same_trajectories c).After-load_tmvs) c.loop-end.invariant.like).trajs
-
-pub returns-in_err-load_tmvs-clause-same_maps : goal.returns-in_err-load_tmvs-clause-same_maps
-returns-in_err-load_tmvs-clause-same_maps c = (same_parts_after (same (goal.at.returns-in_err-load_tmvs-clause-same_maps c).After-load_tmvs) c.loop-end.invariant.like).maps
-
 pub returns-in_err-load_tmvs-clause-loaded : goal.returns-in_err-load_tmvs-clause-loaded
 returns-in_err-load_tmvs-clause-loaded c =
     let a = c.args in let l = c.loop-end in let k = c.load_tmvs in let r = c.in_err-load_tmvs in
@@ -33,15 +24,6 @@ pub loop-end-preserved : goal.loop-end-preserved
 loop-end-preserved c =
     let a = c.args in let l = c.loop-end in let k = c.load_tmvs in
     row_on a.setup.now a.traj a.holes a.planes.now a.row a.ends.now l.end-index l.start _ 0 _ (parts l.field l.trajectories l.maps) (parts k.new.field k.new.trajectories k.new.maps) _ c.loop-end-test.true (ap (λ (n : ℕ). a.row + n) c.side_of.ensures.value) (rw c.in_ok-load_tmvs.was at k.ensures.answer) k.ensures.stored refl (same (goal.at.loop-end-preserved c).After-load_tmvs) l.invariant
-
-pub returns-clause-same_field : goal.returns-clause-same_field
-returns-clause-same_field c = c.loop-end.invariant.like.field
-
-pub returns-clause-same_trajectories : goal.returns-clause-same_trajectories
-returns-clause-same_trajectories c = c.loop-end.invariant.like.trajs
-
-pub returns-clause-same_maps : goal.returns-clause-same_maps
-returns-clause-same_maps c = c.loop-end.invariant.like.maps
 
 pub returns-clause-loaded : goal.returns-clause-loaded
 returns-clause-loaded c =
