@@ -1,5 +1,5 @@
 -- Laws of the loads of a frame, and the theorem that specs/Frame.antt states. Assumes nothing.
-use Rattle.std.proofs.Common.{◌≡◌, refl, ap, ◌∙◌, sym, Bool, true, false, cond, List, [], ◌∷◌, ◌++◌, ℕ, suc, ◌+◌, ◌-◌, ◌*◌, ◌/◌, ◌≤◌, ◌<◌, mul_comm, div-le_self, add-one, arith, eqb, ℤ, length, get_or, drop, drop_of_length-le, drop-cons, eq-eqb, ne_eqb}
+use Rattle.std.proofs.Common.{◌≡◌, refl, ap, ◌∙◌, sym, Bool, true, false, cond, List, [], ◌∷◌, ◌++◌, ℕ, suc, ◌+◌, ◌-◌, ◌*◌, ◌/◌, ◌%◌, min, ◌≤◌, ◌<◌, mul_comm, div-le_self, add-one, arith, eqb, ℤ, length, get_or, drop, drop_of_length-le, drop-cons, eq-eqb, ne_eqb}
 use Rattle.std.proofs.Math.Nat.{mul-div-le}
 use borrow.Author.Tests.{eqb-false}
 use Rattle.frame.specs.declared.Frame.{Frame}
@@ -104,8 +104,16 @@ module _ (f : Frame) (traj holes : Bool) (planes : List ℤ) where
   rows_end ends i all p o h g = let e : rows_of f - i ≡ 0 = omega arith in (rw e at g.is)
 
 -- the number of superblock rows, as code works it out
-pub rows_are : (f : Frame) (h d : ℕ) → h ≡ high_of f → d ≡ side_of f → (h + (d - 1)) / d ≡ rows_of f
-rows_are f h d a b = rw (a, b)
+rounded_up : (f : Frame) (h : ℕ) → h / side_of f + min 1 (h % side_of f) ≡ (h + (side_of f - 1)) / side_of f
+rounded_up f h = go (eqb f.sb128 0) (eqb f.sb128 1)
+  where
+    go : (p q : Bool) → let d : ℕ = cond p 8 (cond q 16 32) in h / d + min 1 (h % d) ≡ (h + (d - 1)) / d
+    go true q = omega arith
+    go false true = omega arith
+    go false false = omega arith
+
+pub rows_are : (f : Frame) (h d : ℕ) → h ≡ high_of f → d ≡ side_of f → h / d + min 1 (h % d) ≡ rows_of f
+rows_are f h d a b = rw (a, b) (rounded_up f (high_of f))
 
 -- a superblock row begins in the frame
 row_low : (f : Frame) (i : ℕ) → i < rows_of f → i * side_of f + side_of f ≤ high_of f + (side_of f - 1)
@@ -116,7 +124,7 @@ pub record Low (f : Frame) (i d : ℕ) : Type 0 where
   pub below : i < rows_of f
   pub few : rows_of f ≤ 65536
 
-pub low : (f : Frame) (h d i : ℕ) → h ≡ high_of f → d ≡ side_of f → f.height ≤ 65536 → i < (h + (d - 1)) / d → Low f i d
+pub low : (f : Frame) (h d i : ℕ) → h ≡ high_of f → d ≡ side_of f → f.height ≤ 65536 → i < h / d + min 1 (h % d) → Low f i d
 low f h d i a b l k =
     let below : i < rows_of f = rw (rows_are f h d a b) at k in
     let e : i * d ≡ i * side_of f = ap (λ (n : ℕ). i * n) b in

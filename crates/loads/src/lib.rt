@@ -70,7 +70,8 @@ pub fn load_frame(
         ≡ until_refused (frame_calls setup.now traj holes planes.now ends.now) (store_of field.old trajectories.old maps.old) }
 {
     let side = checks::side_of(setup);
-    let rows = (checks::high_of(setup) + (side - 1)) / side;
+    let rows = checks::high_of(setup).div_ceil(side);
+    // By number: a row of superblocks begins at a multiple of the side.
     for i in 0..rows {
         load_row(
             field,

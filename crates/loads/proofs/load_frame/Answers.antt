@@ -11,7 +11,7 @@ use Rattle.loads.proofs.load_frame.Goals as goal
 
 -- where the row stands that is loaded
 lows : (o : In-loop-i) → Low o.args.setup.now o.loop-i.i o.side_of-side.result
-lows o = low _ _ _ _ o.high_of.ensures.value o.side_of-side.ensures.value o.requires o.loop-i-test.true
+lows o = low _ _ _ _ o.high_of.ensures.value o.side_of-side.ensures.value o.requires (rw o.div_ceil-rows.ensures at o.loop-i-test.true)
 
 -- the lists that are lent stay the same
 same : (c : After-load_row) → IsSameParts (parts c.load_row.new.field c.load_row.new.trajectories c.load_row.new.maps) (parts c.loop-i.field c.loop-i.trajectories c.loop-i.maps)
@@ -38,4 +38,4 @@ loop-i-preserved c =
 pub returns-clause-loaded : goal.returns-clause-loaded
 returns-clause-loaded c =
     let a = c.args in let l = c.loop-i in
-    rows_end a.setup.now a.traj a.holes a.planes.now a.ends.now l.i _ _ _ (rw (rows_are c.args.setup.now _ _ c.high_of.ensures.value c.side_of-side.ensures.value) at c.loop-i-test.false) l.invariant
+    rows_end a.setup.now a.traj a.holes a.planes.now a.ends.now l.i _ _ _ (rw (c.div_ceil-rows.ensures, rows_are c.args.setup.now _ _ c.high_of.ensures.value c.side_of-side.ensures.value) at c.loop-i-test.false) l.invariant
