@@ -294,6 +294,7 @@ fn line_fine(planes: &[i8], t: &Tile, slot: usize, dir: usize, y: usize) -> bool
     requires row { y < t.now.high }
     ensures { result ≡ line_fine (geometry t.now) planes.now slot dir y }
 {
+    // By number, as the definition counts the sampled blocks: `step_by` leaves a loop by two exits, each with its goals, and saves one line.
     let n = t.count(0, t.wide);
     let start = (slot * t.high + y) * t.stride;
     let mut ok = true;
@@ -309,6 +310,7 @@ fn row_fine(planes: &[i8], t: &Tile, slot: usize, dir: usize) -> bool
     requires direction { dir < 2 }
     ensures { result ≡ all_below ((t.now.bottom - t.now.top + (t.now.step - 1)) / t.now.step) (λ j. line_fine (geometry t.now) planes.now slot dir (t.now.top + j * t.now.step)) }
 {
+    // By number, as in `line_fine`.
     let n = t.count(t.top, t.bottom);
     let mut ok = true;
     for j in 0..n {
