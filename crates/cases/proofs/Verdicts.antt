@@ -18,11 +18,6 @@ pub when_true : (b : Bool) {p q : Type 0} → (p → q) → WhenTrue b p → Whe
 when_true true f h = f h
 when_true false f h = tt
 
--- what holds where a test came out true
-pub tested : (b : Bool) {p : Type 0} → (b ≡ true → p) → WhenTrue b p
-tested true f = f refl
-tested false f = tt
-
 -- past a test whose negation was false
 pub passed : (b : Bool) {p : Type 0} → not b ≡ false → WhenTrue b p → p
 passed b e h = rw (not-false b e) at h

@@ -11,7 +11,9 @@ use std::num::TryFromIntError;
 /// What a judge says of a case.
 #[derive(Clone, Copy, Debug, PartialEq, Eq)]
 pub enum Verdict {
+    /// What the line states is the library's answer.
     Agrees,
+    /// It is not.
     Differs,
     /// A count of numbers that the kind does not have, or a number that does not fit its field.
     NotACase,
@@ -33,19 +35,23 @@ impl From<Option<bool>> for Verdict {
     }
 }
 
+/// Is v from `low` to `high`, both included?
 pub fn within(v: i64, low: i64, high: i64) -> bool
     ensures { WhenTrue result (Inside low high v) }
 {
     (low..=high).contains(&v)
 }
 
+/// Are the numbers from the place `from` up to `to` within `low` and `high`? Where `to` is below `from`, there are none.
 pub fn all_within(n: &[i64], from: usize, to: usize, low: i64, high: i64) -> bool
     requires { to ≤ length n.now }
     ensures { WhenTrue result (AllInside low high from to n.now) }
 {
-    // Not `n[from..to].iter()`, which has to be in order: where `to` is below `from`, there are none.
-    for k in from..to {
-        if !within(n[k], low, high) {
+    let Some(numbers) = n.get(from..to) else {
+        return true;
+    };
+    for &v in numbers {
+        if !within(v, low, high) {
             return false;
         }
     }
@@ -78,6 +84,7 @@ pub fn to_usize(v: i64) -> usize
 }
 
 /// A switch is on where its number is not 0.
+// A function of its own: the number is signed, and the proofs of four callers cite what it ensures.
 pub fn is_on(v: i64) -> bool
     ensures { result ≡ is_on v }
 {
@@ -119,8 +126,11 @@ pub fn same<T: Copy + Into<i64>>(list: &[T], n: &[i64], from: usize) -> bool
     let Some(numbers) = n.get(from..) else {
         return false;
     };
-    for (i, &v) in list.iter().enumerate() {
-        if numbers.get(i) != Some(&v.into()) {
+    if numbers.len() < list.len() {
+        return false;
+    }
+    for (&v, &number) in list.iter().zip(numbers) {
+        if v.into() != number {
             return false;
         }
     }

@@ -15,7 +15,7 @@ use levels::{OrderHint, Refusal};
 use picks::{Pocs, Saved};
 use std::array;
 
-/// Does each number of the header fit its field? A switch fits as it is.
+// Does each number of the header fit its field? A switch fits as it is.
 fn fits_header(n: &[i64]) -> bool
     requires { 83 ≤ length n.now }
     ensures { WhenTrue result (HeaderFits n.now) }
@@ -35,7 +35,7 @@ fn hints_at(n: &[i64], k: usize) -> [OrderHint; 7]
     array::from_fn(|i| OrderHint(hints[i]))
 }
 
-/// A slot's saved hints, and then their count.
+// A slot's saved hints, and then their count.
 fn saved_at(n: &[i64], k: usize) -> Saved
     requires { k + 8 ≤ length n.now }
     ensures { Bytes k (k + 8) n.now → result ≡ saved_at n.now k }
@@ -62,6 +62,7 @@ fn all_saved(n: &[i64]) -> [Saved; 7]
     out
 }
 
+/// Seven switches, from the number k on.
 pub fn switches_at(n: &[i64], k: usize) -> [bool; 7]
     requires { k + 7 ≤ length n.now }
     ensures { result ≡ switches_at n.now k }
@@ -70,11 +71,12 @@ pub fn switches_at(n: &[i64], k: usize) -> [bool; 7]
 }
 
 fn pocs_of(n: &[i64]) -> Pocs
-    requires { (83 ≤ length n.now) × HeaderFits n.now }
+    requires long { 83 ≤ length n.now }
+    requires fits { HeaderFits n.now }
     ensures { result ≡ pocs_of n.now }
 {
     let nbits = cases::number(n[0]);
-    let n_refs = cases::number::<u32>(n[3]) as usize;
+    let n_refs = cases::number(n[3]);
     let poc = OrderHint(cases::number(n[12]));
     let ref_poc = hints_at(n, 13);
     let saved = all_saved(n);
@@ -88,7 +90,8 @@ fn pocs_of(n: &[i64]) -> Pocs
 }
 
 fn header_of(n: &[i64]) -> Header
-    requires { (83 ≤ length n.now) × HeaderFits n.now }
+    requires long { 83 ≤ length n.now }
+    requires fits { HeaderFits n.now }
     ensures { result ≡ header_of n.now }
 {
     let width = cases::number(n[1]);
@@ -119,17 +122,14 @@ fn header_of(n: &[i64]) -> Header
     }
 }
 
-/// A line has no number above the largest i64.
+// A line has no number above the largest i64.
 fn of_u64(v: u64) -> i64
     ensures { result ≡ in_i64 v }
 {
-    if 9223372036854775807 < v {
-        return i64::MAX;
-    }
-    v as i64
+    i64::try_from(v).unwrap_or(i64::MAX)
 }
 
-/// Puts the seven elements from k on: f is what each converts to.
+// Puts the seven elements from k on: f is what each converts to.
 fn put_seven<T: Copy + Into<i64>>(a: &[T; 7], out: &mut [i64; 171], k: usize)
     requires { k + 7 ≤ 171 }
     ensures { (f : ℕ → ℤ) → ((i : ℕ) (x : T) (z : ℤ) → slice_get a.now i ≡ Some x → T.converts x z → z ≡ f i) → out.new ≡ put_seven f k out.old }
@@ -157,8 +157,7 @@ fn put_source(s: Source, out: &mut [i64; 171], k: usize)
 fn put_sources(sources: Sources, out: &mut [i64; 171])
     ensures { out.new ≡ put_sources sources out.old }
 {
-    for i in 0..4 {
-        let s = sources.mfmv[i];
+    for (i, &s) in sources.mfmv.iter().enumerate() {
         put_source(s, out, 43 + 32 * i);
     }
 }
@@ -166,8 +165,9 @@ fn put_sources(sources: Sources, out: &mut [i64; 171])
 fn put_head(f: Frame, out: &mut [i64; 171])
     ensures { out.new ≡ put_head f out.old }
 {
-    out[0] = of_u64(f.width as u64);
-    out[1] = of_u64(f.height as u64);
+    out[0] = of_u64(u64::from(f.width));
+    out[1] = of_u64(u64::from(f.height));
+    // `as`: there is no `From` from usize to u64.
     out[2] = of_u64(f.n_refs as u64);
     out[3] = i64::from(f.sb128);
     out[4] = i64::from(f.tmvp_sample_step);
@@ -191,6 +191,7 @@ fn put_frame(f: Frame, out: &mut [i64; 171])
     put_seven(&f.abspocdiff, out, 33);
     out[40] = i64::from(sources.mfmv_mask);
     out[41] = i64::from(f.use_ref_frame_mvs);
+    // `as`: there is no `From` from usize to u64.
     out[42] = of_u64(sources.n_mfmvs as u64);
     put_sources(sources, out);
 }
@@ -225,6 +226,7 @@ fn same_frame(n: &[i64]) -> Option<bool>
     Some(i64::from(number) == n[83] && is_record(f, n, 84))
 }
 
+/// Judges a line of a header, the refusal's number and the record.
 pub fn judge_frame(n: &[i64]) -> Verdict
     ensures { WhenAgrees result (FrameAgrees n.now) }
 {

@@ -1,5 +1,5 @@
 -- What a verdict that a case agrees says of the numbers of its line. Assumes nothing.
-use Rattle.std.specs.Prelude.{◌≡◌, Result, Ok, Err, List, ℕ, ◌+◌, ◌<◌, ℤ, pos, nat_abs, length}
+use Rattle.std.specs.Prelude.{◌≡◌, Result, Ok, Err, List, ℕ, ◌+◌, ℤ, pos, nat_abs}
 use Rattle.levels.specs.declared.Mv.{Mv}
 use Rattle.levels.specs.declared.QMv.{QMv}
 use Rattle.levels.specs.declared.Refusal.{Refusal}
@@ -8,7 +8,7 @@ use Rattle.env.specs.Hints.{SaidDiff, poc_diff}
 use Rattle.mv.specs.Averages.{smoothed, gap_mean}
 use Rattle.mv.specs.Packing.{packed, unpacked}
 use Rattle.mv.specs.Projection.{mv_projection, scale_mv}
-use Rattle.cases.specs.Numbers.{at, hint_at, Is32}
+use Rattle.cases.specs.Numbers.{at, hint_at}
 
 -- the vector of the numbers k and k + 1
 abbrev pub vector_at : List ℤ → ℕ → Mv
@@ -17,10 +17,6 @@ vector_at n k = record { y = at n k; x = at n (k + 1) }
 -- the packed vector of the numbers k and k + 1
 abbrev pub packed_at : List ℤ → ℕ → QMv
 packed_at n k = record { y = at n k; x = at n (k + 1) }
-
--- each number has 32 bits, signed
-abbrev pub All32 : List ℤ → Type 0
-All32 n = (k : ℕ) → k < length n → Is32 (at n k)
 
 -- the value of an answer, and v beside a refusal
 abbrev pub value_or : {T : Type 0} → T → Result T Refusal → T

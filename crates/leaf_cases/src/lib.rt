@@ -3,7 +3,7 @@
 // the two agree.
 #![tactic(auto)]
 
-ghost use Rattle.std.specs.Prelude.{◌≡◌, true, ◌≤◌, pos, nat_abs, ◌≤ℤ◌, Some, IfSome};
+ghost use Rattle.std.specs.Prelude.{◌≡◌, true, ◌≤◌, nat_abs, Some, IfSome};
 ghost use Rattle.levels.specs.Answer.{refusal_of, says};
 ghost use Rattle.cases.specs.Verdicts.{WhenAgrees};
 ghost use Rattle.leaf_cases.specs.Agrees.{value_or, Stated, ProjectAgrees, ScaleAgrees, QuantizeAgrees, DequantizeAgrees, HintAgrees, SmoothAgrees, GapAgrees};
@@ -12,7 +12,7 @@ ghost use Rattle.mv.specs.Averages.{SumOf};
 use cases::Verdict;
 use levels::{Mv, OrderHint, QMv, Refusal};
 
-/// What the answer says: the refusal's number, 0 for none, and the value, beside a refusal `none`.
+// What the answer says: the refusal's number, 0 for none, and the value, beside a refusal `none`.
 fn said<T: Copy>(answer: Result<T, Refusal>, none: T) -> (u8, T)
     ensures number { result.0 ≡ refusal_of answer }
     ensures value { result.1 ≡ value_or none answer }
@@ -23,7 +23,7 @@ fn said<T: Copy>(answer: Result<T, Refusal>, none: T) -> (u8, T)
     }
 }
 
-/// Does the answer have this refusal number and this vector?
+// Does the answer have this refusal number and this vector?
 fn says(answer: Result<Mv, Refusal>, refusal: i32, stated: Mv) -> bool
     ensures { result ≡ true → Stated (says answer) refusal stated }
 {
@@ -43,6 +43,7 @@ fn project(n: &[i64]) -> Option<bool>
     Some(says(answer, refusal, stated))
 }
 
+/// Judges a line of mv_projection: a vector, the four numbers of the call, the refusal's number and the vector that is answered.
 pub fn judge_project(n: &[i64]) -> Verdict
     ensures { WhenAgrees result (ProjectAgrees n.now) }
 {
@@ -61,6 +62,7 @@ fn scale(n: &[i64]) -> Option<bool>
     Some(says(answer, refusal, stated))
 }
 
+/// Judges a line of scale_mv: a vector, a factor, the refusal's number and the vector that is answered.
 pub fn judge_scale(n: &[i64]) -> Verdict
     ensures { WhenAgrees result (ScaleAgrees n.now) }
 {
@@ -77,6 +79,7 @@ fn quantize(n: &[i64]) -> Option<bool>
     Some(q.y == stated_y && q.x == stated_x)
 }
 
+/// Judges a line of quantize_mv: a vector and the packed one.
 pub fn judge_quantize(n: &[i64]) -> Verdict
     ensures { WhenAgrees result (QuantizeAgrees n.now) }
 {
@@ -97,6 +100,7 @@ fn dequantize(n: &[i64]) -> Option<bool>
     Some(says(answer, refusal, stated))
 }
 
+/// Judges a line of dequantize_mv: a packed vector, the refusal's number and the vector.
 pub fn judge_dequantize(n: &[i64]) -> Verdict
     ensures { WhenAgrees result (DequantizeAgrees n.now) }
 {
@@ -117,18 +121,21 @@ fn hint(n: &[i64]) -> Option<bool>
     Some(i64::from(number) == refusal && diff == stated)
 }
 
+/// Judges a line of get_poc_diff: hint bits, two hints, the refusal's number and the difference.
 pub fn judge_hint(n: &[i64]) -> Verdict
     ensures { WhenAgrees result (HintAgrees n.now) }
 {
     hint(n).into()
 }
 
-/// The count of cells of an average, 1 to `most`, where the sum is one of that many components.
-fn cells_of(n: i64, most: i64, sum: i64) -> Option<usize>
-    requires { most ≤ℤ pos 5 }
-    ensures { IfSome result (λ cells. (1 ≤ cells) × (pos cells ≤ℤ most) × SumOf cells sum × (cells ≡ nat_abs n)) }
+// The count of cells of an average, 1 to `most`, where the sum is one of that many components.
+fn cells_of(n: i64, most: u8, sum: i64) -> Option<usize>
+    ensures some { IfSome result (λ cells. 1 ≤ cells) }
+    ensures most { IfSome result (λ cells. cells ≤ most) }
+    ensures sum { IfSome result (λ cells. SumOf cells sum) }
+    ensures stated { IfSome result (λ cells. cells ≡ nat_abs n) }
 {
-    if n < 1 || most < n || sum < -(n * 2147483648) || n * 2147483647 < sum {
+    if n < 1 || i64::from(most) < n || sum < -(n * 2147483648) || n * 2147483647 < sum {
         return None;
     }
     usize::try_from(n).ok()
@@ -145,6 +152,7 @@ fn smooth(n: &[i64]) -> Option<bool>
     Some(mv::smooth_average(sum, cells) == stated)
 }
 
+/// Judges a line of the average of smoothing: how many cells, the sum, the average.
 pub fn judge_smooth(n: &[i64]) -> Verdict
     ensures { WhenAgrees result (SmoothAgrees n.now) }
 {
@@ -162,6 +170,7 @@ fn gap(n: &[i64]) -> Option<bool>
     Some(mv::gap_average(sum, cells) == stated)
 }
 
+/// Judges a line of the average of a gap: how many cells, the sum, the average.
 pub fn judge_gap(n: &[i64]) -> Verdict
     ensures { WhenAgrees result (GapAgrees n.now) }
 {
