@@ -60,6 +60,7 @@ fn verdict(
 ) -> Option<Verdict>
     ensures { IfSome result (λ v. WhenAgrees v (CaseAgrees lengths cells.now want.now setup.now n.now)) }
 {
+    // Arrays with their lengths beside, since the program uses no heap: a load is lent the front of each.
     let mut field_y = [0i32; 2048];
     let mut field_x = [0i32; 2048];
     let mut field_ref = [0u8; 2048];

@@ -1,5 +1,5 @@
--- Laws of a kept load: what a line asks by its parts, the call by what is asked, its verdict. Assumes nothing.
-use Rattle.std.proofs.Common.{Some, slice_get, get_or, ◌≡◌, ap, ◌∙◌, subst, Bool, true, List, ℕ, ◌+◌, ℤ, pos, nat_abs}
+-- Laws of a kept load: the call by what is asked, its verdict. Assumes nothing.
+use Rattle.std.proofs.Common.{Some, slice_get, get_or, ◌≡◌, ap, ◌∙◌, subst, Bool, true, List, ℕ, ◌+◌, ℤ, pos}
 use Rattle.std.proofs.lemmas.Option.{slice_get-get_or}
 use Rattle.frame.specs.declared.Frame.{Frame}
 use Rattle.store.specs.Store.{Store}
@@ -7,20 +7,12 @@ use Rattle.store.specs.Calls.{called}
 use Rattle.load.specs.declared.Asked.{Asked}
 use Rattle.load.specs.Asked.{call_of}
 use Rattle.load.specs.Calls.{answer, load}
-use Rattle.cases.specs.Numbers.{at, is_on}
+use Rattle.cases.specs.Numbers.{at}
 use Rattle.cases.specs.Verdicts.{WhenTrue, WhenAgrees}
 use Rattle.cases.specs.declared.Verdict.{Verdict}
 use Rattle.cases.proofs.Verdicts.{when_agrees}
 use Rattle.frame_cases.specs.FrameCase.{record_of, Stated}
 use Rattle.load_cases.specs.LoadCase.{Listed, ListedBytes, asked_at, StoreListed, CallAgrees}
-
--- what is asked, of the same by other names
-pub asked_is : (n : List ℤ) (k : ℕ) {w t h : Bool} {a b c d : ℕ}
-    → w ≡ is_on (at n k) → t ≡ is_on (at n (k + 1)) → h ≡ is_on (at n (k + 2))
-    → a ≡ nat_abs (at n (k + 3)) → b ≡ nat_abs (at n (k + 4)) → c ≡ nat_abs (at n (k + 5)) → d ≡ nat_abs (at n (k + 6))
-    → ◌≡◌ {A = Asked} (record { whole_frame = w; traj = t; holes = h; col_start = a; col_end = b; row_start = c; row_end = d }) (asked_at n k)
-unfolding asked_at
-asked_is n k e1 e2 e3 e4 e5 e6 e7 = cc
 
 -- an answer and a store after a call
 abbrev Left : Frame → List ℤ → Store → ℕ → Store → Asked → Type 0

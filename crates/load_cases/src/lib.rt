@@ -19,27 +19,38 @@ use load::Asked;
 use store::Pairs;
 
 // The lists of a case lie in one list of numbers, one after the other, each in room for the longest
-// of the kept cases: here they begin.
+// of the kept cases: here they begin. One list, since a line names the list that it sets by a number,
+// and of a fixed length, since the programs use no heap.
+
+/// Where the field's y begin.
 pub const FIELD_Y: usize = 0;
 
+/// The field's x.
 pub const FIELD_X: usize = 2048;
 
+/// Its reference bytes.
 pub const FIELD_REF: usize = 4096;
 
+/// The trajectories' y.
 pub const TRAJ_Y: usize = 6144;
 
+/// The trajectories' x.
 pub const TRAJ_X: usize = 13318;
 
+/// The maps' y.
 pub const MAP_Y: usize = 20492;
 
+/// The maps' x.
 pub const MAP_X: usize = 42002;
 
+/// The planes' bytes.
 pub const PLANES: usize = 63512;
 
 /// What the numbers of a line from k on ask of a load besides its setup.
 #[tactic(auto, unfolding(crate::specs::LoadCase::asked_at))]
 pub fn asked_at(n: &[i64], k: usize) -> Asked
-    requires { (k + 7 ≤ length n.now) × TileNumbers n.now k }
+    requires long { k + 7 ≤ length n.now }
+    requires tile { TileNumbers n.now k }
     ensures { result ≡ asked_at n.now k }
 {
     Asked {

@@ -57,7 +57,7 @@ fn tip_of(n: &[i64]) -> Tip
     Tip { delta, sf0, sf1 }
 }
 
-/// Fields and elements in the order of include/refmvs.h.
+/// The setup of 171 numbers, fields and elements in the order of include/refmvs.h.
 pub fn setup_of(n: &[i64]) -> Frame
     requires { 171 ≤ length n.now }
     ensures { SetupNumbers n.now → result ≡ setup_at n.now }

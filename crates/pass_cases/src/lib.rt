@@ -2,7 +2,7 @@
 // against the lists that are wanted.
 #![tactic(auto)]
 
-ghost use Rattle.std.specs.Prelude.{◌≡◌, true, false, ◌*◌, ◌≤◌, ◌<◌, nat_abs, length, [], Some, IfSome, IfOk};
+ghost use Rattle.std.specs.Prelude.{◌≡◌, true, false, ◌*◌, ◌≤◌, ◌<◌, nat_abs, length, [], Some, IfSome, IfOk, OnOk};
 ghost use Rattle.store.specs.Program.{run};
 ghost use Rattle.tile.specs.Lent.{IsTrajHeld, IsMapHeld};
 ghost use Rattle.tile.specs.Owner.{owns};
@@ -88,7 +88,8 @@ fn accepted_tile(
     setup: &Frame,
     asked: Asked,
 ) -> Result<Tile, Refusal>
-    ensures { IfOk result (λ t. Accepted setup.now asked (store_of field.now trajectories.now maps.now) × (geometry t ≡ tile_of (call_of setup.now asked []))) }
+    ensures accepted { OnOk result (Accepted setup.now asked (store_of field.now trajectories.now maps.now)) }
+    ensures tile { IfOk result (λ t. geometry t ≡ tile_of (call_of setup.now asked [])) }
 {
     let t = checks::tile_of(setup, asked)?;
     let planes = 6 * (7 * (checks::high_of(setup) * checks::stride_of(setup)));
@@ -104,6 +105,7 @@ fn applies(t: &Tile, pass: &Pass) -> bool
         && (t.step == 2 || (pass.kind != Kind::FillGapProj && pass.kind != Kind::FillGapTraj))
 }
 
+// What a load begins with.
 fn empty(
     field: &mut Field<'_>,
     trajectories: &mut Pairs<'_, i32>,
@@ -123,6 +125,7 @@ fn empty(
     stages::clear_trajs(trajectories, maps, t, asked.traj);
 }
 
+// The pass of the kind that is asked for.
 fn run_pass(
     field: &mut Field<'_>,
     trajectories: &mut Pairs<'_, i32>,

@@ -9,12 +9,17 @@ use levels::Mv;
 pub enum Kind {
     /// What a load begins with: in row mode the copy of the rows above, then the emptying.
     Emptying,
+    /// The vectors of TIP.
     TipProjection,
+    /// Empty cells beside others.
     FillHoles,
+    /// The mean of a cell and those around it.
     Smoothen,
+    /// The field's cells between samples.
     FillGapProj,
-    /// Of every slot.
+    /// The trajectories between samples, of every slot.
     FillGapTraj,
+    /// A meeting of two trajectories.
     CheckTrajIntersect,
 }
 

@@ -16,7 +16,7 @@ abbrev was : Start → Store
 was s = let a = s.args in store_of a.field.now a.trajectories.now a.maps.now
 
 pub asked_at-requires : goal.asked_at-requires
-asked_at-requires c = (omega (arith, c.if-n-ne8.false), passed c.all_within.result c.if-not-all_within.false-raw c.all_within.ensures)
+asked_at-requires c = record { long = omega (arith, c.if-n-ne8.false); tile = passed c.all_within.result c.if-not-all_within.false-raw c.all_within.ensures }
 
 pub returns : goal.returns
 returns c =

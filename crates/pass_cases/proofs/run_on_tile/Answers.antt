@@ -8,7 +8,7 @@ use Rattle.pass_cases.proofs.run_on_tile.Goals as goal
 fine : (c : In-Ok) → Ready c.args.asked.whole_frame (store_of c.args.field.now c.args.trajectories.now c.args.maps.now) (geometry c.in-Ok.t)
 fine c =
     let a = c.args in let e = c.in-Ok.ensures in
-    ready a.setup.now a.asked (store_of a.field.now a.trajectories.now a.maps.now) e.0 (geometry c.in-Ok.t) e.1
+    ready a.setup.now a.asked (store_of a.field.now a.trajectories.now a.maps.now) e.accepted (geometry c.in-Ok.t) e.tile
 
 pub run_pass-requires-clause-row_mode : goal.run_pass-requires-clause-row_mode
 run_pass-requires-clause-row_mode c = (fine (goal.at.run_pass-requires-clause-row_mode c).In-Ok).row_mode

@@ -1,6 +1,5 @@
 -- `load_cases::setup::sources_of` meets its contract. Assumes nothing.
 use Rattle.std.proofs.Common.{arith, w64, SFits, rules}
-use borrow.Author.Rules.{sfits_of}
 use Rattle.intops.proofs.Signed.{back}
 use Rattle.cases.specs.Numbers.{at}
 use Rattle.cases.proofs.Elements.{as_u8, as_usize}
