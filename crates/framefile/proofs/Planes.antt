@@ -1,9 +1,8 @@
 -- Planes of a file: those of the slots below, and where a plane ends. Assumes nothing.
-use Rattle.std.proofs.Common.{Bool, true, false, cond, List, ◌≡◌, refl, ap, ◌∙◌, ℕ, zero, suc, ◌+◌, ◌-◌, ◌*◌, ◌≤◌, ◌<◌, add-zero, mul-le-mul, add-one, arith, get_or}
+use Rattle.std.proofs.Common.{Bool, true, false, cond, List, ◌≡◌, refl, ap, ◌∙◌, ℕ, zero, suc, ◌+◌, ◌-◌, ◌*◌, ◌≤◌, ◌<◌, add-zero, add-one, arith, get_or}
 use mir.Val.{bool_byte}
 use Rattle.loops.proofs.Turns.{row_within}
 use Rattle.framefile.specs.File.{present_before, plane_at}
-use Rattle.framefile.proofs.Bounds.{cells_low}
 
 -- one slot more
 pub present_more : (present : List Bool) (k : ℕ) → present_before present (k + 1) ≡ present_before present k + cond (get_or present k false) 1 0
@@ -35,10 +34,6 @@ plane_within present n wide high k h t =
     let e : k + 1 + (6 - k) ≡ 7 = omega arith in
     let u : present_before present (k + 1) ≤ present_before present 7 = rw e at (present_up present (k + 1) (6 - k)) in
     omega (arith, row_within (present_before present k) (present_before present 7) (6 * (high * wide)) (omega (arith, m, u)))
-
--- the bytes of at most seven planes
-pub planes_low : (r wide high : ℕ) → r ≤ 7 → wide ≤ 256 → high ≤ 256 → r * (6 * (high * wide)) ≤ 2752512
-planes_low r wide high a w h = let b : 6 * (high * wide) ≤ 393216 = omega (arith, cells_low high wide h w) in mul-le-mul a b
 
 -- the planes stand behind the tile columns' ends
 pub head_within : (present : List Bool) (n wide high k : ℕ) → 103 + 4 * n ≤ plane_at present n wide high k

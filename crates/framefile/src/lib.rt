@@ -2,21 +2,14 @@
 #![tactic(auto)]
 
 ghost use Rattle.std.specs.Prelude.{cond, ◌≡◌, ◌+◌, ◌*◌, ◌≤◌, ◌<◌, length, take};
-ghost use Rattle.framefile.specs.File.{is_on, word_at, hints_at, saved_at, all_saved, switches_at, present_of, pocs_of, header_of, is_frame_file, end_at, ends_of, present_before, plane_at, put_row, put_plane, put_present, put_planes};
+ghost use Rattle.framefile.specs.File.{word_at, hints_at, saved_at, all_saved, switches_at, present_of, pocs_of, header_of, is_frame_file, end_at, ends_of, present_before, plane_at, put_row, put_plane, put_present, put_planes};
 
 use frame::Header;
 use levels::OrderHint;
 use picks::{Pocs, Saved};
 use std::array;
 
-// A switch is on where it is not 0.
-pub fn is_on(b: u8) -> bool
-    ensures { result ≡ is_on b }
-{
-    b != 0
-}
-
-/// Four bytes, the lowest first.
+// Four bytes, the lowest first.
 fn word_at(b: &[u8], at: usize) -> u32
     requires { at + 4 ≤ length b.now }
     ensures { result ≡ word_at b.now at }
@@ -52,10 +45,10 @@ fn switches_at(b: &[u8], at: usize) -> [bool; 7]
     requires { at + 7 ≤ length b.now }
     ensures { result ≡ switches_at b.now at }
 {
-    array::from_fn(|i| is_on(b[at + i]))
+    array::from_fn(|i| b[at + i] != 0)
 }
 
-// For each slot, whether its plane is in the file.
+/// For each slot, whether its plane is in the file.
 pub fn present_of(b: &[u8]) -> [bool; 7]
     requires { 103 ≤ length b.now }
     ensures { result ≡ present_of b.now }
@@ -68,6 +61,7 @@ fn pocs_of(b: &[u8]) -> Pocs
     ensures { result ≡ pocs_of b.now }
 {
     let nbits = word_at(b, 5);
+    // `as`: there is no `From` from u32 to usize.
     let n_refs = word_at(b, 17) as usize;
     let poc = OrderHint(b[29]);
     let ref_poc = hints_at(b, 30);
@@ -81,17 +75,18 @@ fn pocs_of(b: &[u8]) -> Pocs
     }
 }
 
+/// The header of a file.
 pub fn header_of(b: &[u8]) -> Header
     requires { 103 ≤ length b.now }
     ensures { result ≡ header_of b.now }
 {
     let width = word_at(b, 9);
     let height = word_at(b, 13);
-    let tip = is_on(b[21]);
+    let tip = b[21] != 0;
     let sb128 = b[22];
     let tmvp_sample_step = b[23];
-    let use_ref_frame_mvs = is_on(b[24]);
-    let has_bothside_refs = is_on(b[25]);
+    let use_ref_frame_mvs = b[24] != 0;
+    let has_bothside_refs = b[25] != 0;
     let tip_frame_mode = b[26];
     let tip0 = text::signed_byte(b[27]);
     let tip1 = text::signed_byte(b[28]);
@@ -113,7 +108,7 @@ pub fn header_of(b: &[u8]) -> Header
     }
 }
 
-// Do the bytes begin with RMVF and version 1?
+/// Do the bytes begin with RMVF and version 1?
 pub fn is_frame_file(b: &[u8]) -> bool
     requires { 103 ≤ length b.now }
     ensures { result ≡ is_frame_file b.now }
@@ -121,29 +116,33 @@ pub fn is_frame_file(b: &[u8]) -> bool
     (b[0] == b'R') & (b[1] == b'M') & (b[2] == b'V') & (b[3] == b'F') & (b[4] == 1)
 }
 
-// The end of tile column i, in cells.
+/// The end of tile column i, in cells.
 pub fn end_at(b: &[u8], i: usize) -> usize
-    requires { (i ≤ 254) × (107 + 4 * i ≤ length b.now) }
+    requires column { i ≤ 254 }
+    requires in_file { 107 + 4 * i ≤ length b.now }
     ensures { result ≡ end_at b.now i }
 {
+    // `as`: there is no `From` from u32 to usize.
     word_at(b, 103 + 4 * i) as usize
 }
 
-// The ends of the first n tile columns.
+/// The ends of the first n tile columns.
 pub fn read_ends(b: &[u8], n: usize, ends: &mut [usize])
-    requires { (n ≤ 255) × (103 + 4 * n ≤ length b.now) × (n ≤ length ends.old) }
+    requires columns { n ≤ 255 }
+    requires in_file { 103 + 4 * n ≤ length b.now }
+    requires room { n ≤ length ends.old }
     ensures { take n ends.new ≡ ends_of b.now n }
 {
-    for i in 0..n {
-        let end = end_at(b, i);
-        ends[i] = end;
+    for (i, end) in ends[..n].iter_mut().enumerate() {
+        *end = end_at(b, i);
     }
 }
 
 // How many of the slots below k have their plane in the file.
 fn present_before(present: [bool; 7], k: usize) -> usize
     requires { k ≤ 7 }
-    ensures { (result ≡ present_before present k) × (result ≤ k) }
+    ensures value { result ≡ present_before present k }
+    ensures most { result ≤ k }
 {
     let mut n = 0;
     for &here in &present[..k] {
@@ -152,16 +151,19 @@ fn present_before(present: [bool; 7], k: usize) -> usize
     n
 }
 
-// Where slot k's plane begins in a file with n tile columns; for k = 7, where the file ends.
+/// Where slot k's plane begins in a file with n tile columns; for k = 7, where the file ends.
 pub fn plane_at(present: [bool; 7], n: usize, wide: usize, high: usize, k: usize) -> usize
-    requires { (n ≤ 255) × (wide ≤ 256) × (high ≤ 256) × (k ≤ 7) }
+    requires columns { n ≤ 255 }
+    requires wide { wide ≤ 256 }
+    requires high { high ≤ 256 }
+    requires slot { k ≤ 7 }
     ensures { result ≡ plane_at present n wide high k }
 {
     let bytes = 6 * (high * wide);
     103 + 4 * n + present_before(present, k) * bytes
 }
 
-// A row of blocks goes to its place in the planes.
+/// A row of blocks goes to its place in the planes.
 pub fn put_row(line: &[u8], planes: &mut [i8], at: usize)
     requires { at + length line.now ≤ length planes.old }
     ensures { planes.new ≡ put_row line.now at planes.old }
@@ -171,47 +173,53 @@ pub fn put_row(line: &[u8], planes: &mut [i8], at: usize)
     }
 }
 
-/// Which planes a file has and how many blocks they are, and how far apart their rows go.
+// How the rows of a plane lie, in blocks.
 #[derive(Clone, Copy)]
-struct Layout {
-    present: [bool; 7],
-    /// The file's tile columns.
-    columns: usize,
+struct Rows {
     wide: usize,
     high: usize,
-    /// From row to row of the planes' list, in blocks.
+    // From row to row of the planes' list.
     stride: usize,
-    ghost few: { columns ≤ 255 },
     ghost narrow: { wide ≤ stride },
     ghost stride_low: { stride ≤ 256 },
     ghost high_low: { high ≤ 256 },
 }
 
-/// A plane's rows, one behind the other from `from` on in the file, go to the planes, from `at` on.
-fn put_plane(b: &[u8], from: usize, l: Layout, planes: &mut [i8], at: usize)
-    requires in_file { from + 6 * (l.high * l.wide) ≤ length b.now }
-    requires room { at + 6 * (l.high * l.stride) ≤ length planes.old }
-    ensures { planes.new ≡ put_plane b.now from l.wide l.high l.stride at planes.old }
+// Which planes a file has, behind how many tile columns, and how their rows lie.
+#[derive(Clone, Copy)]
+struct Layout {
+    present: [bool; 7],
+    columns: usize,
+    rows: Rows,
+    ghost few: { columns ≤ 255 },
+}
+
+// A plane's rows, one behind the other from `from` on in the file, go to the planes, from `at` on.
+fn put_plane(b: &[u8], from: usize, rows: Rows, planes: &mut [i8], at: usize)
+    requires in_file { from + 6 * (rows.high * rows.wide) ≤ length b.now }
+    requires room { at + 6 * (rows.high * rows.stride) ≤ length planes.old }
+    ensures { planes.new ≡ put_plane b.now from rows.wide rows.high rows.stride at planes.old }
 {
-    for y in 0..l.high {
-        let row = from + 6 * (y * l.wide);
-        let end = row + 6 * l.wide;
-        put_row(&b[row..end], planes, at + 6 * (y * l.stride));
+    for y in 0..rows.high {
+        let row = from + 6 * (y * rows.wide);
+        let end = row + 6 * rows.wide;
+        put_row(&b[row..end], planes, at + 6 * (y * rows.stride));
     }
 }
 
-/// The plane of slot k, where the file has one.
+// The plane of slot k, where the file has one.
 fn put_present(b: &[u8], l: Layout, planes: &mut [i8], k: usize)
-    requires in_file { plane_at l.present l.columns l.wide l.high 7 ≤ length b.now }
+    requires in_file { plane_at l.present l.columns l.rows.wide l.rows.high 7 ≤ length b.now }
     requires room { 2752512 ≤ length planes.old }
     requires slot { k < 7 }
-    ensures { planes.new ≡ put_present b.now l.present l.columns l.wide l.high l.stride k planes.old }
+    ensures { planes.new ≡ put_present b.now l.present l.columns l.rows.wide l.rows.high l.rows.stride k planes.old }
 {
     if !l.present[k] {
         return;
     }
-    let from = plane_at(l.present, l.columns, l.wide, l.high, k);
-    put_plane(b, from, l, planes, k * (6 * (l.high * l.stride)));
+    let rows = l.rows;
+    let from = plane_at(l.present, l.columns, rows.wide, rows.high, k);
+    put_plane(b, from, rows, planes, k * (6 * (rows.high * rows.stride)));
 }
 
 /// The planes that a file with n tile columns has; the others stay as they were.
@@ -224,15 +232,18 @@ pub fn put_planes(
     stride: usize,
     planes: &mut [i8],
 )
-    requires { (n ≤ 255) × (wide ≤ stride) × (stride ≤ 256) × (high ≤ 256) × (plane_at present n wide high 7 ≤ length b.now) × (2752512 ≤ length planes.old) }
+    requires columns { n ≤ 255 }
+    requires narrow { wide ≤ stride }
+    requires stride { stride ≤ 256 }
+    requires high { high ≤ 256 }
+    requires in_file { plane_at present n wide high 7 ≤ length b.now }
+    requires room { 2752512 ≤ length planes.old }
     ensures { planes.new ≡ put_planes b.now present n wide high stride planes.old }
 {
     let l = Layout {
         present,
         columns: n,
-        wide,
-        high,
-        stride,
+        rows: Rows { wide, high, stride },
     };
     for k in 0..7 {
         put_present(b, l, planes, k);

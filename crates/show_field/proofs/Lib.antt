@@ -1,5 +1,5 @@
 pub mod Joined
+pub mod Mapped
 pub mod Parts
 pub mod Shows
 pub mod Tests
-pub mod Words

@@ -12,10 +12,6 @@ use Rattle.show.specs.Picture.{row_pixels}
 use Rattle.show_field.specs.Output.{picture_part}
 use Rattle.show_field.specs.Shown.{columns_of, setup_number, file_frame, end_of, bad_columns, no_planes, planes_of, empty_store, loaded_of}
 
--- a row of pixels is the part behind the head
-pub row_part : (f : Frame) (ys xs : List ℤ) (k py : ℕ) → k ≡ suc py → row_pixels ys xs (py / 8 * stride_of f) py f.width ≡ picture_part f ys xs k
-row_part f ys xs k py e = rw e
-
 module _ (b : List ℕ) (f : Frame) (fe : f ≡ file_frame b) where
   pub planes_as : (present : List Bool) (n wide high stride : ℕ) (none : List ℤ) → present ≡ present_of b → n ≡ columns_of b → wide ≡ wide_of f → high ≡ high_of f → stride ≡ stride_of f → none ≡ no_planes
       → put_planes b present n wide high stride none ≡ planes_of b

@@ -1,11 +1,10 @@
 //! The field of a file: its planes and tile columns, and the loads from an empty store.
-ghost use Rattle.std.specs.Prelude.{MatchResult, Some, None, ◌≡◌, ◌≤◌, length};
+ghost use Rattle.std.specs.Prelude.{◌≡◌, ◌≤◌, length, replicate};
 ghost use Rattle.levels.specs.Answer.{refusal_of};
 ghost use Rattle.field.specs.Lent.{IsSameField};
 ghost use Rattle.loads.specs.Frame.{frame_calls, until_refused};
-ghost use Rattle.show_field.specs.Shown.{columns_of, no_planes, empty_store, loaded_of, problem_of, HasField, Complete};
+ghost use Rattle.show_field.specs.Shown.{columns_of, file_frame, end_of, empty_store, loaded_of, HasField};
 
-use crate::problems::Problem;
 use field::Field;
 use frame::Frame;
 use levels::Refusal;
@@ -14,35 +13,18 @@ use store::Pairs;
 /// N, the number of tile columns.
 pub fn columns_of(file: &[u8]) -> usize
     requires { 103 ≤ length file.now }
-    ensures { (result ≡ columns_of file.now) × (result ≤ 255) }
+    ensures value { result ≡ columns_of file.now }
+    ensures most { result ≤ 255 }
 {
     usize::from(file[102])
 }
 
-// Seven planes of 256 x 256 blocks. A function of its own: proofs take them from its contract, and need not work out an array of that size.
-fn no_planes() -> [i8; 2752512]
-    ensures { (result ≡ no_planes) × (2752512 ≡ length result) }
+/// An array of equal elements. A function of its own: proofs take them from its contract, and need not work out a large array.
+pub fn filled<T: Copy, const N: usize>(value: T) -> [T; N]
+    ensures elements { result ≡ replicate N value }
+    ensures long { N ≡ length result }
 {
-    [0; 2752512]
-}
-
-// The lists of an empty field of 256 x 256 cells, in functions of their own for the same reason.
-pub fn no_ys() -> [i32; 65536]
-    ensures { (result ≡ empty_store.field_y) × (65536 ≡ length result) }
-{
-    [levels::INVALID_MV; 65536]
-}
-
-pub fn no_xs() -> [i32; 65536]
-    ensures { (result ≡ empty_store.field_x) × (65536 ≡ length result) }
-{
-    [0; 65536]
-}
-
-pub fn no_references() -> [u8; 65536]
-    ensures { (result ≡ empty_store.field_ref) × (65536 ≡ length result) }
-{
-    [0; 65536]
+    [value; N]
 }
 
 // The loads of all tiles, from an empty store.
@@ -84,19 +66,23 @@ fn load_tiles(
     )
 }
 
-/// Loads the field of a file that is complete.
-pub fn load_field(file: &[u8], setup: &Frame, field: &mut Field<'_>) -> Result<(), Problem>
-    requires complete { Complete file.now setup.now }
+/// Loads the field of a file that is long enough.
+pub fn load_field(file: &[u8], setup: &Frame, field: &mut Field<'_>) -> Result<(), Refusal>
+    requires frame { setup.now ≡ file_frame file.now }
+    requires width { setup.now.width ≤ 2048 }
+    requires height { setup.now.height ≤ 2048 }
+    requires long { end_of file.now ≤ length file.now }
     requires empty { HasField field.old empty_store }
     ensures same_field { IsSameField field.new field.old }
-    ensures told { MatchResult result (λ _. problem_of file.now ≡ None) (λ p. problem_of file.now ≡ Some p) }
+    ensures refusal { refusal_of result ≡ (loaded_of file.now).number }
     ensures loaded { HasField field.new (loaded_of file.now).store }
 {
     let n = columns_of(file);
     let mut ends = [0usize; 255];
     framefile::read_ends(file, n, &mut ends);
     let present = framefile::present_of(file);
-    let mut planes = no_planes();
+    // Seven planes of 256 x 256 blocks.
+    let mut planes: [i8; 2752512] = filled(0);
     framefile::put_planes(
         file,
         present,
@@ -106,10 +92,7 @@ pub fn load_field(file: &[u8], setup: &Frame, field: &mut Field<'_>) -> Result<(
         checks::stride_of(setup),
         &mut planes,
     );
-    let traj = framefile::is_on(file[100]);
-    let holes = framefile::is_on(file[101]);
-    match load_tiles(field, &planes, setup, traj, holes, &ends[..n]) {
-        Ok(()) => Ok(()),
-        Err(refusal) => Err(Problem::Load(refusal)),
-    }
+    let traj = file[100] != 0;
+    let holes = file[101] != 0;
+    load_tiles(field, &planes, setup, traj, holes, &ends[..n])
 }

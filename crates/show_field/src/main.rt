@@ -22,7 +22,9 @@ use std::io::{Read, Write};
 /// What is made of a field.
 #[derive(Clone, Copy, Debug, PartialEq, Eq)]
 pub enum Wanted {
+    /// A line for each cell.
     Text,
+    /// A PPM file.
     Picture,
 }
 
@@ -37,10 +39,10 @@ fn wanted_of(count: usize, arg: &[u8]) -> Result<Wanted, Problem>
     if 2 < count {
         return Err(Problem::Usage);
     }
-    if check::same(arg, b"text") {
+    if arg == b"text".as_slice() {
         return Ok(Wanted::Text);
     }
-    if check::same(arg, b"picture") {
+    if arg == b"picture".as_slice() {
         return Ok(Wanted::Picture);
     }
     Err(Problem::Usage)
@@ -78,7 +80,8 @@ fn asked(rt: &impl Env) -> Result<Wanted, Problem> {
 
 // Are there no tile columns, or does the last not end at the frame's width?
 fn bad_columns(file: &[u8], n: usize, wide: usize) -> bool
-    requires { (n ≤ 255) × (103 + 4 * n ≤ length file.now) }
+    requires columns { n ≤ 255 }
+    requires in_file { 103 + 4 * n ≤ length file.now }
     ensures { result ≡ bad_columns file.now n wide }
 {
     n == 0 || framefile::end_at(file, n - 1) != wide
@@ -94,10 +97,7 @@ fn setup_of(file: &[u8]) -> Result<Frame, Problem>
     if !framefile::is_frame_file(file) {
         return Err(Problem::NotAFrameFile);
     }
-    let setup = match frame::init_frame(&framefile::header_of(file)) {
-        Ok(setup) => setup,
-        Err(refusal) => return Err(Problem::Setup(refusal)),
-    };
+    let setup = frame::init_frame(&framefile::header_of(file)).map_err(Problem::Setup)?;
     if 2048 < setup.width {
         return Err(Problem::TooLarge);
     }
@@ -138,24 +138,22 @@ fn show_loaded<W: Write>(
     requires complete { Complete file.now setup.now }
     ensures { Shows W.contents wanted file.now to.old to.new result }
 {
-    let mut ys = from_file::no_ys();
-    let mut xs = from_file::no_xs();
-    let mut references = from_file::no_references();
+    // A field of 256 x 256 cells, empty.
+    let mut ys: [i32; 65536] = from_file::filled(levels::INVALID_MV);
+    let mut xs: [i32; 65536] = from_file::filled(0);
+    let mut references: [u8; 65536] = from_file::filled(0);
     let mut field = Field {
         y: &mut ys,
         x: &mut xs,
         reference: &mut references,
     };
-    from_file::load_field(file, setup, &mut field)?;
+    from_file::load_field(file, setup, &mut field).map_err(Problem::Load)?;
     let cells = Cells {
         y: &ys,
         x: &xs,
         reference: &references,
     };
-    match write::write_field(to, wanted, setup, cells) {
-        Ok(parts) => Ok(parts),
-        Err(_) => Err(Problem::NotWritten),
-    }
+    write::write_field(to, wanted, setup, cells).map_err(|_| Problem::NotWritten)
 }
 
 // Nothing is written where there is a problem.
@@ -165,13 +163,6 @@ fn show<W: Write>(to: &mut W, file: &[u8], wanted: Wanted) -> Result<u32, Proble
     let setup = setup_of(file)?;
     check_rest(file, &setup)?;
     show_loaded(to, file, &setup, wanted)
-}
-
-// A function of its own: proofs take the length from its contract, and need not work out an array of that size.
-fn no_file() -> [u8; 2753636]
-    ensures { 2753636 ≡ length result }
-{
-    [0; 2753636]
 }
 
 // The longest file that is not too long has 255 tile columns and seven planes of 256 x 256 blocks; by one byte more a longer one is seen.
@@ -188,7 +179,7 @@ fn show_input<R: Read, W: Write>(
 }
 
 fn run<R: Read, W: Write>(from: &mut R, to: &mut W, wanted: Wanted) -> Result<u32, Problem> {
-    let mut file = no_file();
+    let mut file: [u8; 2753636] = from_file::filled(0);
     show_input(from, to, wanted, &mut file)
 }
 

@@ -14,7 +14,9 @@ use std::io::Write;
 pub enum Problem {
     /// The arguments are none that the program knows.
     Usage,
+    /// The file is shorter than its header says.
     TooShort,
+    /// It does not begin with the name and the version of such a file.
     NotAFrameFile,
     /// `init_frame` refuses the header.
     Setup(Refusal),
@@ -22,6 +24,7 @@ pub enum Problem {
     TooLarge,
     /// No tile columns, or the last does not end at the frame's width.
     TileColumns,
+    /// The file is longer than its header says.
     TooLong,
     /// `load_tmvs` refuses a tile.
     Load(Refusal),
@@ -29,7 +32,7 @@ pub enum Problem {
     NotWritten,
 }
 
-// Each put function appends its line, of at most 80 bytes, or nothing where there is none.
+// The line of a message. Each put function appends its line, of at most 80 bytes, or nothing where there is none.
 #[tactic(auto, unfolding(crate::specs::Lines::line))]
 fn put_message<const N: usize>(message: &[u8], out: &mut ArrayVec<u8, N>)
     requires short { length message.now ≤ 67 }

@@ -17,17 +17,19 @@ use show::Cells;
 use std::io;
 use std::io::Write;
 
-impl<'f, 'c> View<'f, 'c> {
-    // How many parts there are.
-    fn parts(&self) -> u32
-        ensures { result ≡ parts_of self.now.wanted self.now.setup.now }
-    {
-        match self.wanted {
-            Wanted::Text => checks::high_of(self.setup) as u32,
-            Wanted::Picture => self.setup.height + 1,
-        }
+// How many parts there are.
+fn parts_of(wanted: Wanted, setup: &Frame) -> u32
+    requires height { setup.now.height ≤ 2048 }
+    ensures { result ≡ parts_of wanted setup.now }
+{
+    match wanted {
+        // `as`: at most 256 rows of cells.
+        Wanted::Text => checks::high_of(setup) as u32,
+        Wanted::Picture => setup.height + 1,
     }
+}
 
+impl<'f, 'c> View<'f, 'c> {
     // The lines of a row of cells.
     fn put_row_text<const N: usize>(&self, row: u32, out: &mut ArrayVec<u8, N>)
         requires row { row < high_of self.now.setup.now }
@@ -35,6 +37,7 @@ impl<'f, 'c> View<'f, 'c> {
         ensures text { out.new.items ≡ out.old.items ++ row_text self.now.cells.y.now self.now.cells.x.now self.now.cells.reference.now (row * stride_of self.now.setup.now) row (wide_of self.now.setup.now) }
         ensures len { array_vec_len out.new ≤ array_vec_len out.old + 14592 }
     {
+        // `as`: there is no `From` from u32 to usize; and at most 256 columns of cells.
         let base = row as usize * checks::stride_of(self.setup);
         let wide = checks::wide_of(self.setup) as u32;
         show::put_row_text(&self.cells, base, row, wide, out);
@@ -47,10 +50,12 @@ impl<'f, 'c> View<'f, 'c> {
         ensures text { out.new.items ≡ out.old.items ++ row_pixels self.now.cells.y.now self.now.cells.x.now (py / 8 * stride_of self.now.setup.now) py self.now.setup.now.width }
         ensures len { array_vec_len out.new ≤ array_vec_len out.old + 14592 }
     {
+        // `as`: there is no `From` from u32 to usize.
         let base = (py / 8) as usize * checks::stride_of(self.setup);
         show::put_row_pixels(&self.cells, base, py, self.setup.width, out);
     }
 
+    // Part k of a picture.
     fn put_picture_part<const N: usize>(&self, k: u32, out: &mut ArrayVec<u8, N>)
         requires part { k ≤ self.now.setup.now.height }
         requires room { array_vec_len out.old + 14592 ≤ N }
@@ -64,6 +69,7 @@ impl<'f, 'c> View<'f, 'c> {
         }
     }
 
+    // Part k.
     fn put_part<const N: usize>(&self, k: u32, out: &mut ArrayVec<u8, N>)
         requires part { k < parts_of self.now.wanted self.now.setup.now }
         requires room { array_vec_len out.old + 14592 ≤ N }
@@ -102,7 +108,7 @@ impl<'f, 'c> View<'f, 'c> {
     {
         // 256 lines of at most 57 bytes; a row of 2,048 pixels has 6,144.
         let mut out = ArrayVec::<u8, 14592>::new();
-        let parts = self.parts();
+        let parts = parts_of(self.wanted, self.setup);
         for k in 0..parts {
             self.write_part(to, k, &mut out)?;
         }

@@ -9,4 +9,4 @@ unfolding header_of
 returns c =
     let f : SFits w8 c.signed_byte-tip0.result = search rules in
     let g : SFits w8 c.signed_byte-tip1.result = search rules in
-    simp back (rw (c.pocs_of-pocs.ensures, c.present_of-rp_ref.ensures, c.signed_byte-tip1.ensures, c.signed_byte-tip0.ensures, c.is_on-has_bothside_refs.ensures, c.is_on-use_ref_frame_mvs.ensures, c.is_on-tip.ensures, c.word_at-height.ensures, c.word_at-width.ensures))
+    simp back (rw (c.pocs_of-pocs.ensures, c.present_of-rp_ref.ensures, c.signed_byte-tip1.ensures, c.signed_byte-tip0.ensures, c.word_at-height.ensures, c.word_at-width.ensures))

@@ -4,4 +4,4 @@ use Rattle.framefile.proofs.plane_at.Goals as goal
 
 pub returns : goal.returns
 unfolding plane_at
-returns c = rw c.present_before.ensures.0
+returns c = rw c.present_before.ensures.value

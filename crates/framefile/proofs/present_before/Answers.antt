@@ -29,4 +29,4 @@ returns c =
     let l = c.loop-here in
     let r : length (take c.args.k c.args.present) ≡ c.args.k = search (rules, length-take-le) in
     let e : l.here-index ≡ c.args.k = omega (arith, c.loop-here-test.false, l.auto.here-index-end, r) in
-    (rw e at l.invariant.0, omega (arith, e, l.invariant.1))
+    record { value = rw e at l.invariant.0; most = omega (arith, e, l.invariant.1) }

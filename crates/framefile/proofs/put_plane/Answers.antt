@@ -9,15 +9,15 @@ pub loop-y-init : goal.loop-y-init
 loop-y-init c = (refl, refl)
 
 pub put_row-requires : goal.put_row-requires
-put_row-requires c = omega (arith, row_within c.loop-y.y c.args.l.high c.args.l.wide c.loop-y-test.true, row_within c.loop-y.y c.args.l.high c.args.l.stride c.loop-y-test.true, cells_low c.args.l.high c.args.l.stride c.args.l.high_low c.args.l.stride_low, c.args.l.narrow, c.requires.in_file, c.requires.room)
+put_row-requires c = omega (arith, row_within c.loop-y.y c.args.rows.high c.args.rows.wide c.loop-y-test.true, row_within c.loop-y.y c.args.rows.high c.args.rows.stride c.loop-y-test.true, cells_low c.args.rows.high c.args.rows.stride c.args.rows.high_low c.args.rows.stride_low, c.args.rows.narrow, c.requires.in_file, c.requires.room)
 
 pub loop-y-preserved : goal.loop-y-preserved
 loop-y-preserved c =
     let l = c.loop-y in
     let a = c.args in
-    let row = a.from + 6 * (l.y * a.l.wide) in
-    let e : row + 6 * a.l.wide - row ≡ 6 * a.l.wide = omega arith in
-    (search rules, turned (put_plane_row a.b.now a.from a.l.wide a.l.stride a.at) a.l.high l.y l.planes _ _ c.loop-y-test.true (rw e at c.put_row.ensures) l.invariant.1)
+    let row = a.from + 6 * (l.y * a.rows.wide) in
+    let e : row + 6 * a.rows.wide - row ≡ 6 * a.rows.wide = omega arith in
+    (search rules, turned (put_plane_row a.b.now a.from a.rows.wide a.rows.stride a.at) a.rows.high l.y l.planes _ _ c.loop-y-test.true (rw e at c.put_row.ensures) l.invariant.1)
 
 pub returns : goal.returns
 unfolding put_plane

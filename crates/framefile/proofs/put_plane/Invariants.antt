@@ -6,4 +6,4 @@ use Rattle.framefile.proofs.put_plane.Given as goal
 
 abbrev pub invariant-loop-y : goal.invariant-loop-y
 invariant-loop-y l =
-    (length l.planes ≡ length l.initial.planes) × (span (put_plane_row l.b l.from l.l.wide l.l.stride l.at) l.y l.l.high l.planes ≡ span (put_plane_row l.b l.from l.l.wide l.l.stride l.at) 0 l.l.high l.initial.planes)
+    (length l.planes ≡ length l.initial.planes) × (span (put_plane_row l.b l.from l.rows.wide l.rows.stride l.at) l.y l.rows.high l.planes ≡ span (put_plane_row l.b l.from l.rows.wide l.rows.stride l.at) 0 l.rows.high l.initial.planes)

@@ -13,8 +13,8 @@ pub put_plane-requires : goal.put_plane-requires
 put_plane-requires c =
     let a = c.args in
     let t : get_or a.l.present a.k false ≡ true = not-false (get_or a.l.present a.k false) c.if-not-l-k.false-raw in
-    let e : c.plane_at-from.result + 6 * (a.l.high * a.l.wide) ≤ length a.b.now = omega (arith, c.plane_at-from.ensures, plane_within a.l.present a.l.columns a.l.wide a.l.high a.k c.requires.slot t, c.requires.in_file) in
-    record { in_file = e; room = omega (arith, row_within a.k 7 (6 * (a.l.high * a.l.stride)) c.requires.slot, cells_low a.l.high a.l.stride a.l.high_low a.l.stride_low, c.requires.room) }
+    let e : c.plane_at-from.result + 6 * (a.l.rows.high * a.l.rows.wide) ≤ length a.b.now = omega (arith, c.plane_at-from.ensures, plane_within a.l.present a.l.columns a.l.rows.wide a.l.rows.high a.k c.requires.slot t, c.requires.in_file) in
+    record { in_file = e; room = omega (arith, row_within a.k 7 (6 * (a.l.rows.high * a.l.rows.stride)) c.requires.slot, cells_low a.l.rows.high a.l.rows.stride a.l.rows.high_low a.l.rows.stride_low, c.requires.room) }
 
 pub returns : goal.returns
 returns c = let a = c.args in let t : get_or a.l.present a.k false ≡ true = not-false (get_or a.l.present a.k false) c.if-not-l-k.false-raw in rw t (rw c.plane_at-from.ensures at c.put_plane.ensures)

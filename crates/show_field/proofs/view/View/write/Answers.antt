@@ -13,5 +13,5 @@ loop-k-preserved g c = written_more _ _ _ _ _ _ refl c.loop-k.invariant c.in_ok-
 pub returns-clause-written : goal.returns-clause-written
 unfolding output
 returns-clause-written g c =
-    let e : c.loop-k.k ≡ c.parts-parts.result = omega arith in
-    written_all _ _ _ _ _ (e ∙ c.parts-parts.ensures) c.loop-k.invariant
+    let e : c.loop-k.k ≡ c.parts_of-parts.result = omega arith in
+    written_all _ _ _ _ _ (e ∙ c.parts_of-parts.ensures) c.loop-k.invariant

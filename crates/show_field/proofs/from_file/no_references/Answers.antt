@@ -1,9 +1,0 @@
--- The length of equal elements, by the law: an array of that size is not worked out.
-use Rattle.std.proofs.Common.{refl, sym, ℕ}
-use lib.ListN.{length-replicate}
-use Rattle.show_field.specs.Shown.{empty_store}
-use Rattle.show_field.proofs.from_file.no_references.Goals as goal
-
-pub returns : goal.returns
-unfolding empty_store
-returns c = (refl, sym (length-replicate {A = ℕ} 65536 0))
