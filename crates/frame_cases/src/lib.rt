@@ -134,6 +134,7 @@ fn put_seven<T: Copy + Into<i64>>(a: &[T; 7], out: &mut [i64; 171], k: usize)
     requires { k + 7 ≤ 171 }
     ensures { (f : ℕ → ℤ) → ((i : ℕ) (x : T) (z : ℤ) → slice_get a.now i ≡ Some x → T.converts x z → z ≡ f i) → out.new ≡ put_seven f k out.old }
 {
+    // The index serves both lists: the numbers go to the midst of the record, and a `zip` with a part of it is no plainer.
     for (i, &v) in a.iter().enumerate() {
         out[k + i] = v.into();
     }

@@ -168,6 +168,7 @@ pub fn put_row(line: &[u8], planes: &mut [i8], at: usize)
     requires { at + length line.now ≤ length planes.old }
     ensures { planes.new ≡ put_row line.now at planes.old }
 {
+    // The index serves both lists: the row's place is in the midst of the planes, and a `zip` with a part of them is no plainer.
     for (i, &byte) in line.iter().enumerate() {
         planes[at + i] = text::signed_byte(byte);
     }
@@ -200,6 +201,7 @@ fn put_plane(b: &[u8], from: usize, rows: Rows, planes: &mut [i8], at: usize)
     requires room { at + 6 * (rows.high * rows.stride) ≤ length planes.old }
     ensures { planes.new ≡ put_plane b.now from rows.wide rows.high rows.stride at planes.old }
 {
+    // A range: a row's number says where it begins in both lists.
     for y in 0..rows.high {
         let row = from + 6 * (y * rows.wide);
         let end = row + 6 * rows.wide;
@@ -245,6 +247,7 @@ pub fn put_planes(
         columns: n,
         rows: Rows { wide, high, stride },
     };
+    // A range of slots: `present` and the plane's place both go by the slot's number.
     for k in 0..7 {
         put_present(b, l, planes, k);
     }

@@ -1,5 +1,5 @@
 -- What the functions work out, as the definitions have it. Assumes nothing.
-use Rattle.std.proofs.Common.{Bool, List, Result, Ok, Err, ◌≡◌, refl, ap, ℕ, suc, ◌*◌, ◌/◌, ℤ}
+use Rattle.std.proofs.Common.{Bool, List, Result, Ok, Err, ◌≡◌, refl, ap, ℕ, ℤ}
 use Rattle.frame.specs.declared.Frame.{Frame}
 use Rattle.frame.specs.declared.Header.{Header}
 use Rattle.levels.specs.declared.Refusal.{Refusal}
@@ -8,8 +8,6 @@ use Rattle.frame.specs.Frame.{SaidSetup, says_setup, setup_of}
 use Rattle.load.specs.Load.{wide_of, high_of, stride_of}
 use Rattle.framefile.specs.File.{byte_at, is_on, header_of, present_of, ends_of, plane_at, put_planes}
 use Rattle.loads.specs.Frame.{frame_calls, until_refused}
-use Rattle.show.specs.Picture.{row_pixels}
-use Rattle.show_field.specs.Output.{picture_part}
 use Rattle.show_field.specs.Shown.{columns_of, setup_number, file_frame, end_of, bad_columns, no_planes, planes_of, empty_store, loaded_of}
 
 module _ (b : List ℕ) (f : Frame) (fe : f ≡ file_frame b) where
