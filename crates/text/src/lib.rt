@@ -46,10 +46,12 @@ pub fn write_out<W: Write, const N: usize>(to: &mut W, out: &ArrayVec<u8, N>) ->
 }
 
 /// What a call of `read_full` did: how many bytes lie at the front of the buffer, and whether a read failed.
-// Not a `Result`: the bytes that came before a failed read are in the buffer, too.
+// Not a `Result`: the bytes that came before a failed read are in the buffer, too, and are counted.
 #[derive(Clone, Copy)]
 pub struct Filled {
+    /// How many bytes lie at the front of the buffer.
     pub bytes: usize,
+    /// Whether a read failed, behind those bytes.
     pub failed: bool,
 }
 
@@ -60,26 +62,22 @@ pub fn read_full<R: Read>(from: &mut R, buf: &mut [u8]) -> Filled
     ensures end { result.failed ≡ false → result.bytes < length buf.new → IsAtEnd (R.remaining from.new) }
     ensures room { result.failed ≡ true → result.bytes < length buf.new }
 {
-    let mut done = 0;
-    while done < buf.len() {
-        match from.read(&mut buf[done..]) {
-            Ok(0) => {
-                return Filled {
-                    bytes: done,
-                    failed: false,
-                };
-            }
-            Ok(n) => done += n,
+    let mut bytes = 0;
+    // `while`: each read says how many bytes it gave.
+    while bytes < buf.len() {
+        match from.read(&mut buf[bytes..]) {
+            Ok(0) => break,
+            Ok(n) => bytes += n,
             Err(_) => {
                 return Filled {
-                    bytes: done,
+                    bytes,
                     failed: true,
                 };
             }
         }
     }
     Filled {
-        bytes: done,
+        bytes,
         failed: false,
     }
 }
