@@ -45,9 +45,6 @@ module _ (input : List ℕ) (r q : Reader) (s : q ≡ steps input r) where
 pub record Left (all n : ℕ) (first : List ℕ) (r : Reader) (input : List ℕ) (m : Reader) : Type 0 where
   pub then_all : (last : List ℕ) (q : Reader) → Reads n input m last q → Reads all first r last q
 
-pub left_all : (n : ℕ) (input : List ℕ) (r : Reader) → Left n n input r input r
-left_all n input r = record { then_all = λ last q d. d }
-
 module _ {all n : ℕ} {first input last : List ℕ} {r m q : Reader} (l : Left all n first r input m) where
   pub found_now : 0 < n → ReadSome input m last q → is_some q.state.found ≡ true → Reads all first r last q
   found_now h s f = l.then_all last q (by n h)

@@ -1,7 +1,7 @@
 -- A line is a word of small letters and `_`, and behind it one or more decimal numbers, each with one space before it. A line that starts with `#` is a
 -- comment, and an empty line is passed over. This file says what the reader makes of one byte, and of the bytes that were read up to the end of a line.
 -- Which bytes the input gives, no definition can say. Assumes nothing.
-use Rattle.std.specs.Prelude.{Bool, true, false, cond, not, ◌&&◌, ◌||◌, List, [], ◌∷◌, ◌++◌, ◌≡◌, ℕ, zero, suc, ◌+◌, ◌-◌, ◌*◌, ◌^◌, ◌≤◌, min, leb, ltb, eqb, ℤ, pos, negsuc, neg_ℤ, Option, Some, None, is_some, length, get_or, set, replicate}
+use Rattle.std.specs.Prelude.{Bool, true, false, cond, not, ◌&&◌, ◌||◌, List, [], ◌∷◌, ◌++◌, ◌≡◌, ℕ, zero, suc, ◌+◌, ◌-◌, ◌*◌, ◌^◌, ◌≤◌, min, leb, ltb, eqb, ℤ, pos, negsuc, neg_ℤ, Option, Some, None, is_some, length, get_or, set}
 use Rattle.std.specs.Char.{is_ascii_digit, is_ascii_lowercase}
 use Rattle.std.specs.Int.Signed.{le_z}
 use Rattle.lines.specs.declared.State.{State}

@@ -1,5 +1,10 @@
--- The lines of a report, as lists of bytes. Assumes nothing.
-use Rattle.std.specs.Prelude.{List, ◌++◌, ℕ, codes, decimal}
+-- What a report counts, and its lines, as lists of bytes. Assumes nothing.
+use Rattle.std.specs.Prelude.{List, ◌++◌, ℕ, ◌+◌, ◌%◌, ◌^◌, codes, decimal}
+use Rattle.std.specs.List.{fold}
+
+-- the sum of the tallies, in 64 bits
+abbrev pub total : List ℕ → ℕ
+total t = fold (λ sum tally. (sum + tally) % 2 ^ 64) 0 t
 
 -- `NAME: N agreed` and a line feed
 unfoldable pub agreed_text : List ℕ → ℕ → List ℕ

@@ -1,13 +1,6 @@
--- Laws of lines that are put one behind the other, and of runs. Assumes nothing.
+-- Laws of lines that are put one behind the other. Assumes nothing.
 use Rattle.std.proofs.Common.{◌≡◌, refl, ap, true, false, ℕ, ◌+◌, ◌<◌, List, ◌++◌, append_assoc, add-one, length, drop, drop-cons, get_or, flat_map, Option, Some, None, is_some, sym, true≢false, ◌∙◌}
 
 -- what is put, with what is still to come, is the whole: one element's text more
 pub put_more : {A : Type 0} (f : A → List ℕ) (xs : List A) (i : ℕ) (d : A) (done more : List ℕ) {whole : List ℕ} → i < length xs → done ++ flat_map f (drop i xs) ≡ whole → more ≡ done ++ f (get_or xs i d) → more ++ flat_map f (drop (i + 1) xs) ≡ whole
 put_more f xs i d done more h e p = rw (p, append_assoc, add-one) (rw (drop-cons xs i d h) at e)
-
-pub is_none : {A : Type 0} (o : Option A) → is_some o ≡ false → o ≡ None
-is_none None e = refl
-is_none (Some x) e = absurd (true≢false e)
-
-pub not_none : {A : Type 0} (o : Option A) → is_some o ≡ true → o ≡ None → ⊥
-not_none o e n = true≢false (sym e ∙ ap is_some n)

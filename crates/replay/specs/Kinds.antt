@@ -1,6 +1,5 @@
 -- The kinds of cases, and what replay makes of a line. What is read, no definition can say; what is put into a buffer to be written, Report.antt says. Assumes nothing.
-use Rattle.std.specs.Prelude.{◌≡◌, ℕ, ◌+◌, ◌%◌, ◌^◌, List, ℤ, Option, Some, None, IsSome, ◌≢◌, codes}
-use Rattle.std.specs.List.{fold}
+use Rattle.std.specs.Prelude.{◌≡◌, ℕ, List, ℤ, Option, Some, None, IsSome, ◌≢◌, codes}
 use Rattle.lines.specs.declared.Found.TheVariants.{Line, AllRead}
 use Rattle.lines.specs.Line.{Reader, counted_up}
 use Rattle.leaf_cases.specs.Agrees.{ProjectAgrees, ScaleAgrees, QuantizeAgrees, DequantizeAgrees, HintAgrees, SmoothAgrees, GapAgrees}
@@ -42,10 +41,6 @@ Holds n Hint = HintAgrees n
 Holds n Smooth = SmoothAgrees n
 Holds n Gap = GapAgrees n
 Holds n Frame = FrameAgrees n
-
--- the sum of the tallies, in 64 bits
-abbrev pub agreed : List ℕ → ℕ
-agreed t = fold (λ sum tally. (sum + tally) % 2 ^ 64) 0 t
 
 -- a case of this kind leaves the run: it goes on if the case holds and is counted; else it ends, not as one that has read all, and nothing is counted
 pub record Judged (k : Kind) (n : List ℤ) (before after : List ℕ) (r : Option End) : Type 0 where

@@ -1,12 +1,12 @@
 -- What replay writes at the end of a run. Assumes nothing.
 use Rattle.std.specs.Prelude.{ℕ, List, [], ◌∷◌, ◌++◌, Option, Some, None, flat_map, codes, slice_index}
 use Rattle.lines.specs.Line.{Reader}
-use Rattle.lines.specs.Report.{agreed_text, differs_text, why_text, all_text}
+use Rattle.lines.specs.Report.{total, agreed_text, differs_text, why_text, all_text}
 use Rattle.replay.specs.declared.kinds.Kind.{Kind}
 use Rattle.replay.specs.declared.kinds.Kind.TheVariants.{Project, Scale, Quantize, Dequantize, Hint, Smooth, Gap, Frame}
 use Rattle.replay.specs.declared.End.{End}
 use Rattle.replay.specs.declared.End.TheVariants.{AllRead, Differs, NotACase}
-use Rattle.replay.specs.Kinds.{name, number, agreed}
+use Rattle.replay.specs.Kinds.{name, number}
 
 -- the line of a kind: its word, and how many of its cases agreed
 abbrev pub kind_line : List ℕ → Kind → List ℕ
@@ -29,4 +29,4 @@ end_text None sum line word = why_text line (codes "too many lines")
 
 -- the whole report
 unfoldable pub report_text : Option End → Reader → List ℕ → List ℕ
-report_text r l t = kinds_text t ++ end_text r (agreed t) l.state.line l.word
+report_text r l t = kinds_text t ++ end_text r (total t) l.state.line l.word

@@ -13,23 +13,24 @@
 //! Ends at the first case that differs, or that cannot be read.
 #![tactic(auto)]
 
-ghost use Rattle.std.specs.Prelude.{◌≡◌, ◌+◌, ◌≤◌, ◌++◌, [], length, OnOk, IfNone, IfSome, None, ◌≢◌, replicate};
+ghost use Rattle.std.specs.Prelude.{◌≡◌, ◌+◌, ◌≤◌, ◌++◌, length, OnOk};
 ghost use Rattle.std.specs.Io.KnownBytes.{Appends};
 ghost use Rattle.arrayvec.specs.ArrayVec.{array_vec_len};
-ghost use Rattle.lines.specs.Line.{counted_up, seen, before, reader};
-ghost use Rattle.replay.specs.Kinds.{Holds, Judged, Taken, number};
+ghost use Rattle.lines.specs.Line.{seen};
+ghost use Rattle.replay.specs.Kinds.{Judged, Taken};
 ghost use Rattle.replay.specs.Report.{end_text, report_text};
-ghost use Rattle.replay.specs.Run.{kept, Turned, Ended, no_tallies};
+ghost use Rattle.replay.specs.Run.{IsEnd};
 
 mod kinds;
 
 use arrayvec::ArrayVec;
 use cases::Verdict;
 use kinds::{Kind, Tallies};
+use lines::run::{TakesLines, take_all};
 use lines::{Found, report};
-use std::io::{Read, Write};
+use std::io::Write;
 
-/// A reader of cases.
+// A reader of cases.
 type Reader = lines::Reader<1024>;
 
 /// How a line has ended the run.
@@ -41,6 +42,13 @@ pub enum End {
     Differs,
     /// What was read is no case.
     NotACase,
+}
+
+// What the lines have come to.
+#[derive(Clone, Copy)]
+struct Replay {
+    ended: Option<End>,
+    tallies: Tallies,
 }
 
 // What becomes of the run after a case of this kind: it is counted if it agrees.
@@ -70,6 +78,31 @@ fn take_line(line: &Reader, tallies: &mut Tallies) -> Option<End>
     }
 }
 
+impl TakesLines<1024> for Replay {
+    ghost use Rattle.replay.specs.Run.{IsNew, Takes, over};
+
+    ghost IsNew = { IsNew };
+
+    ghost Taken = { Takes };
+
+    ghost over = { over };
+
+    fn begin(&mut self) {
+        *self = Replay {
+            ended: None,
+            tallies: [0; 8],
+        };
+    }
+
+    fn take(&mut self, line: &Reader) {
+        self.ended = take_line(line, &mut self.tallies);
+    }
+
+    fn is_over(&self) -> bool {
+        self.ended.is_some()
+    }
+}
+
 // Appends the last line of the report.
 #[tactic(auto, unfolding(crate::specs::Report::end_text))]
 fn put_end<const N: usize>(
@@ -93,19 +126,14 @@ fn put_end<const N: usize>(
 
 // Appends the kinds' lines and the last.
 #[tactic(auto, unfolding(crate::specs::Report::report_text))]
-fn put_report<const N: usize>(
-    ended: Option<End>,
-    last: &Reader,
-    tallies: &Tallies,
-    out: &mut ArrayVec<u8, N>,
-)
+fn put_report<const N: usize>(run: &Replay, last: &Reader, out: &mut ArrayVec<u8, N>)
     requires room { array_vec_len out.old + 420 ≤ N }
-    ensures { out.new.items ≡ out.old.items ++ report_text ended (seen last.now) tallies.now }
+    ensures { out.new.items ≡ out.old.items ++ report_text run.now.ended (seen last.now) run.now.tallies }
 {
-    kinds::put_kinds(tallies, out);
+    kinds::put_kinds(&run.tallies, out);
     put_end(
-        ended,
-        kinds::sum_of(tallies),
+        run.ended,
+        report::total(&run.tallies),
         last.state.line,
         last.word.as_slice(),
         out,
@@ -115,59 +143,27 @@ fn put_report<const N: usize>(
 // Writes the report on the end of a run, and on nothing else.
 fn write_end<W: Write>(
     to: &mut W,
-    ended: Option<End>,
+    run: &Replay,
     last: &Reader,
-    tallies: &Tallies,
     out: &mut ArrayVec<u8, 420>,
 ) -> std::io::Result<()>
-    requires ended { Ended ended (seen last.now) tallies.now }
-    ensures handed { out.new.items ≡ report_text ended (seen last.now) tallies.now }
-    ensures written { OnOk result (Appends (W.contents to.old) (W.contents to.new) (report_text ended (seen last.now) tallies.now)) }
+    requires ended { IsEnd (seen last.now) run.now }
+    ensures handed { out.new.items ≡ report_text run.now.ended (seen last.now) run.now.tallies }
+    ensures written { OnOk result (Appends (W.contents to.old) (W.contents to.new) (report_text run.now.ended (seen last.now) run.now.tallies)) }
 {
     out.clear();
-    put_report(ended, last, tallies, out);
+    put_report(run, last, out);
     text::write_out(to, out)
-}
-
-// Reads the next line and takes it.
-fn take_next<R: Read>(
-    from: &mut R,
-    input: &mut [u8],
-    line: &mut Reader,
-    tallies: &mut Tallies,
-) -> Option<End>
-    ensures { Turned (kept input.old (seen line.old) tallies.old) result (kept input.new (seen line.new) tallies.new) }
-{
-    line.next_line(from, input);
-    take_line(line, tallies)
-}
-
-// Takes line after line, until one ends the run: None where no turn may follow.
-fn take_all<R: Read>(
-    from: &mut R,
-    input: &mut [u8],
-    line: &mut Reader,
-    tallies: &mut Tallies,
-) -> Option<End>
-    requires new { seen line.old ≡ reader (before 0 0 0) [] [] 1024 }
-    requires none { tallies.old ≡ no_tallies }
-    ensures { Ended result (seen line.new) tallies.new }
-{
-    for _ in 0..u64::MAX {
-        let ended = take_next(from, input, line, tallies);
-        if ended.is_some() {
-            return ended;
-        }
-    }
-    None
 }
 
 // Makes the buffers once, and lends them.
 fn main(rt: HostRuntime) {
     let mut input = io::large_buffer();
-    let mut line = Reader::new();
-    let mut tallies = [0; 8];
+    let mut run = Replay {
+        ended: None,
+        tallies: [0; 8],
+    };
     let mut out = ArrayVec::new();
-    let ended = take_all(&mut rt.stdin(), &mut input, &mut line, &mut tallies);
-    let _ = write_end(&mut rt.stdout(), ended, &line, &tallies, &mut out);
+    let last = take_all(&mut rt.stdin(), &mut input, &mut run);
+    let _ = write_end(&mut rt.stdout(), &run, &last, &mut out);
 }

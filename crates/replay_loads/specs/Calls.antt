@@ -1,5 +1,5 @@
 -- What replay_loads makes of a line: a call is counted only if a `check` line finds that it agrees. Assumes nothing.
-use Rattle.std.specs.Prelude.{◌≡◌, ℕ, ◌+◌, ◌%◌, ◌^◌, ◌<◌, ◌≤◌, Bool, true, false, cond, ◌&&◌, List, [], length, replicate, ℤ, Option, Some, None, ◌==◌, ◌≢◌, slice_index, unsigned_abs}
+use Rattle.std.specs.Prelude.{◌≡◌, ℕ, ◌+◌, ◌%◌, ◌^◌, ◌<◌, ◌≤◌, Bool, true, false, cond, ◌&&◌, List, [], length, take, replicate, ℤ, Option, Some, None, ◌==◌, ◌≢◌, slice_index, unsigned_abs}
 use Rattle.cases.specs.declared.Verdict.{Verdict}
 use Rattle.cases.specs.declared.Verdict.TheVariants.{Agrees, Differs as Differing, NotACase}
 use Rattle.cases.specs.Numbers.{at, is_on, IsSize}
@@ -48,13 +48,13 @@ set_up n b = fields b.ended b.lengths n b.call.items b.line b.changed
 abbrev pub begun : List ℤ → ℕ → Book → Book
 begun n l b = fields b.ended b.lengths b.setup.items n l 0
 
--- what a `setup` line of the numbers n leaves
+-- what a `setup` line of the numbers n leaves: it takes 171, and no call may wait for its check
 abbrev pub setup_leaves : List ℤ → Book → Book
-setup_leaves n b = cond (is_free b && length n == 171) (set_up n b) (ended NotALine b)
+setup_leaves n b = cond (is_free b) (passed (length n == 171) (set_up (take 171 n) b)) (ended NotALine b)
 
--- what a `call` or a `pass` line of the numbers n leaves: it takes k, and no call may wait for its check
+-- what a `call` or a `pass` line of the numbers n leaves: it takes k, of which fourteen are kept, and no call may wait for its check
 abbrev pub call_leaves : ℕ → ℕ → List ℤ → Book → Book
-call_leaves k l n b = cond (is_free b && length n == k) (begun n l b) (ended NotALine b)
+call_leaves k l n b = cond (is_free b && length n == k) (begun (take 14 n) l b) (ended NotALine b)
 
 -- fourteen numbers are a pass; the answer is the last of a call's eight: 0 is a load, the others are refusals
 abbrev pub kind_of : List ℤ → Kind

@@ -1,5 +1,5 @@
 -- What a line makes of the lists of a case, which lie in one list of numbers, one after the other. Assumes nothing.
-use Rattle.std.specs.Prelude.{◌≡◌, ℕ, zero, suc, ◌+◌, ◌≤◌, Bool, true, false, cond, List, [], ◌∷◌, length, drop, replicate, ℤ, pos, nat_lt, slice_index, slice_index_or, slice_set, unsigned_abs}
+use Rattle.std.specs.Prelude.{◌≡◌, ℕ, zero, suc, ◌+◌, ◌%◌, ◌≤◌, Bool, true, false, List, [], ◌∷◌, length, drop, replicate, ℤ, pos, slice_index, slice_index_or, slice_set, unsigned_abs}
 use Rattle.cases.specs.Numbers.{at, AllInside}
 
 -- where list k begins: the room of each is that of the longest of the kept cases
@@ -10,14 +10,10 @@ start_of k = slice_index_or (0 ∷ 2048 ∷ 4096 ∷ 6144 ∷ 13318 ∷ 20492 �
 abbrev pub cleared : List ℤ → List ℤ
 cleared to = replicate (length to) (pos 0)
 
--- the place k of n values, or the first where they are used up
-abbrev pub again_at : ℕ → ℕ → ℕ
-again_at k n = cond (nat_lt k n) k 0
-
 -- n elements from i on get the values, from value k on, again and again in their order
 unfoldable pub run_put : List ℤ → ℕ → ℕ → ℕ → List ℤ → List ℤ
 run_put values k zero i to = to
-run_put values k (suc n) i to = run_put values (again_at k (length values) + 1) n (i + 1) (slice_set to i (at values (again_at k (length values))))
+run_put values k (suc n) i to = run_put values (k + 1) n (i + 1) (slice_set to i (at values (k % length values)))
 
 -- the numbers `list from count value..` of a line: the elements lie in the list, and there are no more values than elements
 pub record Lies (lengths : List ℕ) (n : List ℤ) : Type 0 where

@@ -1,7 +1,6 @@
 -- What replay_loads writes at the end of a run. Assumes nothing.
-use Rattle.std.specs.Prelude.{ℕ, ◌+◌, ◌%◌, ◌^◌, cond, List, length, ◌++◌, ◌==◌, ℤ, Option, Some, None, codes, slice_index}
-use Rattle.std.specs.List.{fold}
-use Rattle.lines.specs.Report.{agreed_text, differs_text, why_text, all_text}
+use Rattle.std.specs.Prelude.{ℕ, cond, List, length, ◌++◌, ◌==◌, ℤ, Option, Some, None, codes, slice_index}
+use Rattle.lines.specs.Report.{total, agreed_text, differs_text, why_text, all_text}
 use Rattle.replay_loads.specs.declared.book.Book.{Book}
 use Rattle.replay_loads.specs.declared.book.End.{End}
 use Rattle.replay_loads.specs.declared.book.End.TheVariants.{AllTaken, Differs, NotALine, NoRoom}
@@ -9,10 +8,6 @@ use Rattle.replay_loads.specs.declared.book.End.TheVariants.{AllTaken, Differs, 
 -- how many of each kind agreed (`number`)
 unfoldable pub tallies_text : List ℕ → List ℕ
 tallies_text t = agreed_text (codes "loads") (slice_index t 0) ++ agreed_text (codes "refused loads") (slice_index t 1) ++ agreed_text (codes "passes") (slice_index t 2)
-
--- the sum of the three tallies, in 64 bits
-abbrev pub sum_of : List ℕ → ℕ
-sum_of t = fold (λ sum tally. (sum + tally) % 2 ^ 64) 0 t
 
 -- what a call of these numbers is: `pass` of fourteen, else `call`
 unfoldable pub call_text : List ℤ → List ℕ
@@ -28,4 +23,4 @@ end_text None b sum line = why_text line (codes "too many lines")
 
 -- the whole report
 unfoldable pub report_text : Book → ℕ → List ℕ → List ℕ
-report_text b line t = tallies_text t ++ end_text b.ended b (sum_of t) line
+report_text b line t = tallies_text t ++ end_text b.ended b (total t) line

@@ -4,10 +4,10 @@ ghost use Rattle.std.specs.Prelude.{◌≡◌, ◌+◌, ◌≤◌, ◌++◌, OnO
 ghost use Rattle.arrayvec.specs.ArrayVec.{array_vec_len};
 ghost use Rattle.lines.specs.Report.{differs_text};
 ghost use Rattle.lines.specs.Line.{seen};
-ghost use Rattle.replay_loads.specs.Report.{tallies_text, sum_of, call_text, end_text, report_text};
-ghost use Rattle.replay_loads.specs.Run.{Ended};
+ghost use Rattle.replay_loads.specs.Report.{tallies_text, call_text, end_text, report_text};
+ghost use Rattle.replay_loads.specs.Run.{IsEnd};
 
-use crate::Reader;
+use crate::{Reader, Replay};
 use crate::book::{Book, End};
 use crate::words::{Kind, Tallies};
 use arrayvec::ArrayVec;
@@ -24,15 +24,6 @@ fn put_tallies<const N: usize>(tallies: &Tallies, out: &mut ArrayVec<u8, N>)
     report::put_agreed(b"loads", tallies[Kind::Load.index()], out);
     report::put_agreed(b"refused loads", tallies[Kind::RefusedLoad.index()], out);
     report::put_agreed(b"passes", tallies[Kind::Pass.index()], out);
-}
-
-// The sum of the tallies, in 64 bits.
-fn sum_of(tallies: &Tallies) -> u64
-    ensures { result ≡ sum_of tallies.now }
-{
-    tallies
-        .iter()
-        .fold(0, |sum, &tally| sum.wrapping_add(tally))
 }
 
 #[tactic(auto, unfolding(crate::specs::Report::call_text))]
@@ -62,27 +53,26 @@ fn put_end<const N: usize>(book: &Book, sum: u64, line: u64, out: &mut ArrayVec<
 }
 
 #[tactic(auto, unfolding(crate::specs::Report::report_text))]
-fn put_report<const N: usize>(book: &Book, line: u64, tallies: &Tallies, out: &mut ArrayVec<u8, N>)
+fn put_report<const N: usize>(run: &Replay, line: u64, out: &mut ArrayVec<u8, N>)
     requires room { array_vec_len out.old + 176 ≤ N }
-    ensures { out.new.items ≡ out.old.items ++ report_text book.now line tallies.now }
+    ensures { out.new.items ≡ out.old.items ++ report_text run.now.book line run.now.tallies }
 {
-    put_tallies(tallies, out);
-    put_end(book, sum_of(tallies), line, out);
+    put_tallies(&run.tallies, out);
+    put_end(&run.book, report::total(&run.tallies), line, out);
 }
 
 /// Writes the report on the end of a run, and on nothing else.
 pub fn write_end<W: Write>(
     to: &mut W,
-    book: &Book,
+    run: &Replay,
     last: &Reader,
-    tallies: &Tallies,
     out: &mut ArrayVec<u8, 176>,
 ) -> Result<()>
-    requires ended { Ended book.now (seen last.now) tallies.now }
-    ensures handed { out.new.items ≡ report_text book.now last.now.state.line tallies.now }
-    ensures written { OnOk result (Appends (W.contents to.old) (W.contents to.new) (report_text book.now last.now.state.line tallies.now)) }
+    requires ended { IsEnd (seen last.now) run.now }
+    ensures handed { out.new.items ≡ report_text run.now.book last.now.state.line run.now.tallies }
+    ensures written { OnOk result (Appends (W.contents to.old) (W.contents to.new) (report_text run.now.book last.now.state.line run.now.tallies)) }
 {
     out.clear();
-    put_report(book, last.state.line, tallies, out);
+    put_report(run, last.state.line, out);
     text::write_out(to, out)
 }

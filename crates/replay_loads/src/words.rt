@@ -58,6 +58,7 @@ impl Kind {
         ensures value { result ≡ number self }
         ensures within { result ≤ 2 }
     {
+        // `as`: no `From` gives a variant's number.
         self as usize
     }
 }

@@ -2,7 +2,8 @@
 //! write. Text is gathered in an `ArrayVec`, since the programs use no heap.
 #![tactic(auto)]
 
-ghost use Rattle.std.specs.Prelude.{◌≡◌, ◌+◌, ◌≤◌, ◌<◌, ◌++◌, length, take, true, false, OnOk};
+ghost use Rattle.std.specs.Prelude.{◌≡◌, ◌+◌, ◌≤◌, ◌<◌, ◌++◌, length, take, drop, true, false, OnOk};
+ghost use Rattle.std.specs.Fmt.{signed_decimal};
 ghost use Rattle.std.specs.Io.KnownBytes.{Appends, Consumes, IsAtEnd};
 ghost use Rattle.io.specs.Counts.{IsPrefixLen};
 ghost use Rattle.arrayvec.specs.ArrayVec.{array_vec_len};
@@ -36,6 +37,23 @@ pub fn put_number<I: Integer, const N: usize>(n: I, out: &mut ArrayVec<u8, N>)
     let mut digits = Buffer::new();
     let spelt = digits.format(n).as_bytes();
     put_word(spelt, out);
+}
+
+/// Writes `n` in decimal into `line` so that it ends at `end`, before which there is room for the longest, and answers
+/// where it starts.
+pub fn write_before(n: i32, line: &mut [u8], end: usize) -> usize
+    requires room { 11 ≤ end }
+    requires within { end ≤ length line.old }
+    ensures start { result ≤ end }
+    ensures short { end ≤ result + 11 }
+    ensures written { drop result line.new ≡ signed_decimal n ++ drop end line.old }
+{
+    let start = itoa::write_digits(u64::from(n.unsigned_abs()), line, end);
+    if 0 <= n {
+        return start;
+    }
+    line[start - 1] = b'-';
+    start - 1
 }
 
 /// Writes all of `out` to `to`.
