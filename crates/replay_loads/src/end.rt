@@ -7,9 +7,9 @@ ghost use Rattle.lines.specs.Line.{seen};
 ghost use Rattle.replay_loads.specs.Report.{tallies_text, call_text, end_text, report_text};
 ghost use Rattle.replay_loads.specs.Run.{IsEnd};
 
-use crate::{Reader, Replay};
 use crate::book::{Book, End};
 use crate::words::{Kind, Tallies};
+use crate::{Reader, Replay};
 use arrayvec::ArrayVec;
 use lines::report;
 use std::io::{Result, Write};
@@ -61,6 +61,7 @@ fn put_report<const N: usize>(run: &Replay, line: u64, out: &mut ArrayVec<u8, N>
     put_end(&run.book, report::total(&run.tallies), line, out);
 }
 
+// Not one with that of `replay`: the reports differ, and the rest is two calls.
 /// Writes the report on the end of a run, and on nothing else.
 pub fn write_end<W: Write>(
     to: &mut W,

@@ -41,6 +41,7 @@ impl TryFrom<&[u8]> for Word {
     }
 }
 
+// Not the `Kind` of `replay`: that is what a line's word says, and this what a call has come to.
 /// What a case that agrees counts as.
 #[derive(Clone, Copy, Debug, PartialEq, Eq)]
 pub enum Kind {
