@@ -84,7 +84,7 @@ pub fn to_usize(v: i64) -> usize
 }
 
 /// A switch is on where its number is not 0.
-// A function of its own: the number is signed, and the proofs of four callers cite what it ensures.
+// A function of its own: what it ensures spares its four callers the proof on signed numbers that `!=` asks for.
 pub fn is_on(v: i64) -> bool
     ensures { result ≡ is_on v }
 {
