@@ -76,6 +76,7 @@ fn pocs_of(b: &[u8]) -> Pocs
 }
 
 /// The header of a file.
+// Not one with that of `frame_cases`: a line has numbers where a file has bytes and words, each at a place of its own.
 pub fn header_of(b: &[u8]) -> Header
     requires { 103 ≤ length b.now }
     ensures { result ≡ header_of b.now }

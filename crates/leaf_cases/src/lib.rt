@@ -141,6 +141,7 @@ fn cells_of(n: i64, most: u8, sum: i64) -> Option<usize>
     usize::try_from(n).ok()
 }
 
+// It and `gap` are two functions: each has its own average, count of cells and definition, and would hand all three to a common one.
 fn smooth(n: &[i64]) -> Option<bool>
     ensures { result ≡ Some true → SmoothAgrees n.now }
 {
