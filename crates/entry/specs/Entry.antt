@@ -6,6 +6,7 @@ use Rattle.std.specs.Int.Signed.{lt_z}
 use Rattle.loops.specs.Seven.{seven}
 use Rattle.intops.specs.Choice.{pick_z}
 use Rattle.mv.specs.Projection.{reciprocal}
+use Rattle.levels.specs.declared.Slot.{Slot}
 use Rattle.levels.specs.declared.OrderHint.{OrderHint}
 use Rattle.picks.specs.declared.Pocs.{Pocs}
 use Rattle.picks.specs.declared.MfmvRef.{MfmvRef}
@@ -58,12 +59,17 @@ ref_diff h i m = diff_of h.nbits (hint_of h i) (saved_of h i).ref_poc m
 abbrev pub cur : Pocs → MfmvRef → ℤ
 cur h p = hint_diff h.nbits (hint_of h p.reference.0) h.poc
 
+-- a target as C's record has it: the slot's number; -1 for any, and for a number that a signed byte does not hold
+abbrev pub target_byte : Option Slot → ℤ
+target_byte None = negsuc 0
+target_byte (Some t) = pick_z (ltb t.0 128) (pos t.0) (negsuc 0)
+
 -- the source p with ref2cur c and no entries
 abbrev pub blank_of : MfmvRef → ℤ → Source
 blank_of p c =
     record {
       reference = p.reference;
-      tgt = p.tgt;
+      tgt = target_byte p.tgt;
       dir = p.dir;
       ref2cur = c;
       ref2ref = seven (λ m. pos 0);
@@ -77,7 +83,7 @@ abbrev pub full_of : Pocs → MfmvRef → ℕ → ℤ → Source
 full_of h p i c =
     record {
       reference = p.reference;
-      tgt = p.tgt;
+      tgt = target_byte p.tgt;
       dir = p.dir;
       ref2cur = c;
       ref2ref = seven (λ m. ref_diff h i m);

@@ -2,7 +2,7 @@
 #![tactic(auto)]
 
 ghost use Rattle.std.specs.Prelude.{◌≡◌, ◌≤◌, ◌<◌, nat_abs, IfSome};
-ghost use Rattle.entry.specs.Entry.{found, found_slot, ratio_z, near_z, ref2ref_of, ref2idx_of, part_of, factors_of, blank_of, source_of};
+ghost use Rattle.entry.specs.Entry.{found, found_slot, ratio_z, near_z, ref2ref_of, ref2idx_of, part_of, factors_of, target_byte, blank_of, source_of};
 
 use levels::{OrderHint, Slot};
 use picks::{Hints, MfmvRef, Saved};
@@ -106,13 +106,23 @@ pub struct Source {
     pub ref2sf1: [i32; 7],
 }
 
+// A target as C's record has it: the slot's number; -1 for any, and for a number that a signed byte does not hold.
+fn target_byte(tgt: Option<Slot>) -> i8
+    ensures { result ≡ target_byte tgt }
+{
+    match tgt {
+        Some(t) => i8::try_from(t.0).unwrap_or(-1),
+        None => -1,
+    }
+}
+
 /// The source p with no entries, at a difference from the frame.
 pub fn blank(p: &MfmvRef, ref2cur: i8) -> Source
     ensures { result ≡ blank_of p.now ref2cur }
 {
     Source {
         reference: p.reference,
-        tgt: p.tgt,
+        tgt: target_byte(p.tgt),
         dir: p.dir,
         ref2cur,
         ref2ref: [0; 7],
@@ -136,7 +146,7 @@ pub fn source_of(h: &Hints, p: &MfmvRef) -> Source
     let ref2ref = ref2ref_of(h, hint, saved);
     Source {
         reference: p.reference,
-        tgt: p.tgt,
+        tgt: target_byte(p.tgt),
         dir: p.dir,
         // `as`, as no From goes from i32 to i8: cur is 31 at most.
         ref2cur: cur as i8,

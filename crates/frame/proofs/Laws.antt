@@ -69,11 +69,11 @@ push_fine : (x : MfmvRef) (p : Picks) → Pickable x → p.count < 4 → Fine p 
 push_fine x p h l f = record { few = omega arith; each = λ k. set_has Pickable p.list p.count k x no_pick h (f.each k) }
 
 offered_go : (limit : ℕ) (s : Slot) (dir : ℕ) (p : Picks) (t u : Bool) → leb limit p.count ≡ t → limit ≤ 4 → s.0 < 7 → dir < 2 → Fine p
-    → Fine (cond t p (cond u p (pushed (record { reference = s; tgt = negsuc 0; dir = dir }) p)))
+    → Fine (cond t p (cond u p (pushed (record { reference = s; tgt = None; dir = dir }) p)))
 offered_go limit s dir p true u e l h d f = f
 offered_go limit s dir p false true e l h d f = f
 offered_go limit s dir p false false e l h d f =
-    push_fine (record { reference = s; tgt = negsuc 0; dir = dir }) p (record { reference = h; low = omega signed; high = omega signed; dir = d }) (omega (arith, leb-false limit p.count e)) f
+    push_fine (record { reference = s; tgt = None; dir = dir }) p (record { reference = h; target = tt; dir = d }) (omega (arith, leb-false limit p.count e)) f
 
 pub offered_fine : (limit : ℕ) (c : Option Slot) (dir : ℕ) (p : Picks) → limit ≤ 4 → Valid c → dir < 2 → Fine p → Fine (offered limit c dir p)
 unfolding offered
@@ -114,8 +114,8 @@ unfolding started
 started_none present n = refl
 
 zeros : (n k : ℕ) → Pickable (get_or (replicate n no_pick) k no_pick)
-zeros zero k = record { reference = omega arith; low = omega signed; high = omega signed; dir = omega arith }
-zeros (suc n) zero = record { reference = omega arith; low = omega signed; high = omega signed; dir = omega arith }
+zeros zero k = record { reference = omega arith; target = omega arith; dir = omega arith }
+zeros (suc n) zero = record { reference = omega arith; target = omega arith; dir = omega arith }
 zeros (suc n) (suc k) = zeros n k
 
 pub started_fine : (present : List Bool) (n : ℕ) → Fine (started present n)
@@ -158,7 +158,7 @@ four_is f xs e h = ext_get_or no_source xs (f 0 ∷ f 1 ∷ f 2 ∷ f 3 ∷ []) 
 
 put_fine : (h : Pocs) (s t : Slot) (p : Picks) → s.0 < 7 → t.0 < 7 → p.count < 4 → Fine p → Fine (tip_put h s t p)
 put_fine h s t p l m c f =
-    push_fine (tip_pick h s t) p (record { reference = l; low = omega signed; high = omega signed; dir = omega (arith, byte_one (lt_z (hint_diff h.nbits (hint_of h s.0) (hint_of h t.0)) (pos 0))) }) c f
+    push_fine (tip_pick h s t) p (record { reference = l; target = m; dir = omega (arith, byte_one (lt_z (hint_diff h.nbits (hint_of h s.0) (hint_of h t.0)) (pos 0))) }) c f
 
 add_fine : (h : Pocs) (place : List ℕ) (a b : Slot) (p : Picks) → a.0 < 7 → b.0 < 7 → p.count < 4 → Fine p → Fine (tip_add h place a b p)
 unfolding tip_add

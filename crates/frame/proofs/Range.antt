@@ -2,14 +2,17 @@
 use Rattle.std.proofs.Common.{◌≡◌, refl, Bool, true, false, cond, List, Option, Some, None, IfSome, [], ◌∷◌, ◌<◌, ◌+◌, ℕ, zero, suc, ◌≤◌, arith, ltb, eqb, ℤ, pos, negsuc, neg_ℤ, nat_abs, ◌-ℤ◌, ◌≤ℤ◌, get_or, replicate, ltb-false}
 use Rattle.loops.specs.Seven.{seven}
 use Rattle.loops.proofs.Seven.{seven_all}
+use Rattle.intops.specs.Choice.{pick_z}
 use Rattle.intops.proofs.Signed.{signed, ud, ud_neg}
 use Rattle.levels.specs.declared.OrderHint.{OrderHint}
+use Rattle.levels.specs.declared.Slot.{Slot}
 use Rattle.picks.specs.declared.Pocs.{Pocs}
 use Rattle.picks.specs.declared.MfmvRef.{MfmvRef}
 use Rattle.picks.specs.declared.Picks.{Picks}
 use Rattle.picks.specs.Hints.{hint_of, saved_of}
+use Rattle.picks.specs.Picks.{Valid}
 use Rattle.entry.specs.declared.Source.{Source}
-use Rattle.entry.specs.Entry.{found, or_none, found_slot, size, same_sign, ratio_z, ref_diff, saved_hint, blank_of, cur, full_of, source_of}
+use Rattle.entry.specs.Entry.{found, or_none, found_slot, size, same_sign, ratio_z, ref_diff, saved_hint, target_byte, blank_of, cur, full_of, source_of}
 use Rattle.entry.proofs.Laws.{found_low, diff_le, size_le}
 use Rattle.frame.specs.declared.Sources.{Sources}
 use Rattle.frame.specs.declared.Header.{Header}
@@ -32,12 +35,20 @@ found_in : (hs : List OrderHint) (x : OrderHint) → (negsuc 0 ≤ℤ found_slot
 unfolding found_slot
 found_in hs x = none_go (found hs x 7 0) (found_low hs x 7 0)
 
+target_go : (n : ℕ) (t : Bool) → n < 7 → ltb n 128 ≡ t → (negsuc 0 ≤ℤ pick_z t (pos n) (negsuc 0)) × (pick_z t (pos n) (negsuc 0) ≤ℤ pos 6)
+target_go n true h e = (omega (signed, h), omega (signed, h))
+target_go n false h e = (omega signed, omega signed)
+
+target_in : (t : Option Slot) → Valid t → (negsuc 0 ≤ℤ target_byte t) × (target_byte t ≤ℤ pos 6)
+target_in None h = (omega signed, omega signed)
+target_in (Some t) h = target_go t.0 (ltb t.0 128) h refl
+
 -- the source p at c from the frame, with these entries for reference m
 abbrev made : MfmvRef → ℤ → (ℕ → ℤ) → (ℕ → ℤ) → (ℕ → ℤ) → (ℕ → ℤ) → Source
 made p c rs ks xs ys =
     record {
       reference = p.reference;
-      tgt = p.tgt;
+      tgt = target_byte p.tgt;
       dir = p.dir;
       ref2cur = c;
       ref2ref = seven rs;
@@ -52,8 +63,8 @@ made_in : (p : MfmvRef) (c : ℤ) (rs ks xs ys : ℕ → ℤ) → Pickable p →
 made_in p c rs ks xs ys h l u r k x y =
     record {
       reference = h.reference;
-      target_low = h.low;
-      target_high = h.high;
+      target_low = (target_in p.tgt h.target).0;
+      target_high = (target_in p.tgt h.target).1;
       dir = h.dir;
       cur_low = l;
       cur_high = u;
@@ -92,7 +103,7 @@ abbrev pub AllIn : Sources → Type 0
 AllIn s = (s.n_mfmvs ≤ 4) × ((k : ℕ) → SourceInRange (get_or s.mfmv k no_source))
 
 none_in : SourceInRange no_source
-none_in = blank_in no_pick (pos 0) (record { reference = omega arith; low = omega signed; high = omega signed; dir = omega arith }) (omega signed) (omega signed)
+none_in = blank_in no_pick (pos 0) (record { reference = omega arith; target = omega arith; dir = omega arith }) (omega signed) (omega signed)
 
 nones : (n k : ℕ) → SourceInRange (get_or (replicate n no_source) k no_source)
 nones zero k = none_in

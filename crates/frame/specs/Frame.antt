@@ -1,5 +1,5 @@
 -- The setup record (01 "Setup record"; init_frame). Assumes nothing.
-use Rattle.std.specs.Prelude.{ℕ, zero, suc, ◌+◌, ◌*◌, ◌≤◌, ◌<◌, Bool, true, false, not, cond, ◌&&◌, ◌||◌, ⊤, Result, Ok, Err, List, [], ◌∷◌, ltb, leb, eqb, ℤ, pos, negsuc, nat_abs, ◌≤ℤ◌, get_or, replicate}
+use Rattle.std.specs.Prelude.{ℕ, zero, suc, ◌+◌, ◌*◌, ◌≤◌, ◌<◌, Bool, true, false, not, cond, ◌&&◌, ◌||◌, ⊤, Option, Some, Result, Ok, Err, List, [], ◌∷◌, ltb, leb, eqb, ℤ, pos, negsuc, nat_abs, ◌≤ℤ◌, get_or, replicate}
 use Rattle.std.specs.Int.Signed.{lt_z}
 use mir.Val.{bool_byte}
 use Rattle.loops.specs.Seven.{seven}
@@ -11,7 +11,7 @@ use Rattle.picks.specs.declared.Pocs.{Pocs}
 use Rattle.picks.specs.declared.MfmvRef.{MfmvRef}
 use Rattle.picks.specs.declared.Picks.{Picks}
 use Rattle.picks.specs.Hints.{hint_of}
-use Rattle.picks.specs.Picks.{pushed, neighbours, nearest, rest}
+use Rattle.picks.specs.Picks.{Valid, pushed, neighbours, nearest, rest}
 use Rattle.entry.specs.declared.Source.{Source}
 use Rattle.entry.specs.Entry.{source_of, ratio_z}
 use Rattle.rank.specs.Rank.{sorted}
@@ -29,9 +29,9 @@ unfoldable pub leading : List Bool → List Slot → ℕ → ℕ → ℕ
 leading sign order zero l = l
 leading sign order (suc k) l = cond (get_or sign (slot_at order l) false) (leading sign order k (l + 1)) l
 
--- a source that is not there
+-- a source that is not there: zeros
 abbrev pub no_pick : MfmvRef
-no_pick = record { reference = slot 0; tgt = pos 0; dir = 0 }
+no_pick = record { reference = slot 0; tgt = Some (slot 0); dir = 0 }
 
 -- a slot in use with no plane
 abbrev pub no_plane : List Bool → ℕ → ℕ → Bool
@@ -47,7 +47,7 @@ started present n = record { list = replicate 4 no_pick; count = 0; taken = both
 
 -- slot s with the target t: direction 1 where s's hint is before t's, else 0
 abbrev pub tip_pick : Pocs → Slot → Slot → MfmvRef
-tip_pick h s t = record { reference = s; tgt = pos t.0; dir = bool_byte (lt_z (hint_diff h.nbits (hint_of h s.0) (hint_of h t.0)) (pos 0)) }
+tip_pick h s t = record { reference = s; tgt = Some t; dir = bool_byte (lt_z (hint_diff h.nbits (hint_of h s.0) (hint_of h t.0)) (pos 0)) }
 
 -- it is appended; whether s is taken or has a plane is not asked
 abbrev pub tip_put : Pocs → Slot → Slot → Picks → Picks
@@ -259,11 +259,10 @@ setup_of f = record { refusal = refusal_of f; frame = cond (eqb (refusal_of f) 0
 
 -- ---- For the contracts of internal functions
 
--- a source that may be picked: a slot, a target of −1 to 6, direction 0 or 1
+-- a source that may be picked: a slot, a slot as its target where it has one, direction 0 or 1
 pub record Pickable (x : MfmvRef) : Type 0 where
   pub reference : x.reference.0 < 7
-  pub low : negsuc 0 ≤ℤ x.tgt
-  pub high : x.tgt ≤ℤ pos 6
+  pub target : Valid x.tgt
   pub dir : x.dir < 2
 
 -- four such sources at most

@@ -96,7 +96,7 @@ fn start(present: &[bool; 7], n: usize) -> Picks
     Picks {
         list: [MfmvRef {
             reference: Slot(0),
-            tgt: 0,
+            tgt: Some(Slot(0)),
             dir: 0,
         }; 4],
         count: 0,
@@ -113,8 +113,7 @@ fn tip_pick(h: &Hints, s: Slot, t: Slot) -> MfmvRef
 {
     MfmvRef {
         reference: s,
-        // `as`, as no From goes from u8 to i8: a slot is below 7.
-        tgt: t.0 as i8,
+        tgt: Some(t),
         dir: u8::from(h.diff(h.hint(s), h.hint(t)) < 0),
     }
 }
@@ -190,7 +189,7 @@ fn no_source() -> Source
 {
     let none = MfmvRef {
         reference: Slot(0),
-        tgt: 0,
+        tgt: Some(Slot(0)),
         dir: 0,
     };
     entry::blank(&none, 0)

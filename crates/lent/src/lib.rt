@@ -1,6 +1,8 @@
 // The leaf functions as the entries for C call them: any numbers, an answer that is the refusal's
 // number of 01 (0 for none), and a buffer that the caller lends for the result. A refused call leaves
 // the buffer as it was.
+// An entry's clauses stand here, at its entry in `refmvs` and at its export in `refmvs_c`: the C interface, whose exports are a static
+// library's, which no crate can call.
 #![tactic(auto)]
 
 ghost use Rattle.levels.specs.Answer.{says};

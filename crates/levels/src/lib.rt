@@ -57,7 +57,8 @@ impl Slot {
 #[derive(Clone, Copy, PartialEq, Eq, Debug)]
 pub struct OrderHint(pub u8);
 
-/// Why a call is refused. A refused call has changed nothing.
+/// Why a call is refused: the first of its tests that fails, in the numbers' order, 3 to 8 for a setup and 9 to 12 for a load. A refused call has
+/// changed nothing; `loads::load_frame`, a call for each tile, leaves what the calls before the refused one have loaded.
 #[derive(Clone, Copy, PartialEq, Eq, Debug)]
 pub enum Refusal {
     /// 1: a component past ±65,535, crossed bounds, or a factor past ±507,904.

@@ -1,5 +1,5 @@
 -- The picking of sources: candidates are offered one after the other. Assumes nothing.
-use Rattle.std.specs.Prelude.{ℕ, ◌+◌, ◌*◌, ◌-◌, ◌<◌, Bool, true, false, cond, List, Option, Some, None, IfSome, ltb, leb, ℤ, pos, negsuc, get_or, set}
+use Rattle.std.specs.Prelude.{ℕ, ◌+◌, ◌*◌, ◌-◌, ◌<◌, Bool, true, false, cond, List, Option, Some, None, IfSome, ltb, leb, ℤ, pos, get_or, set}
 use Rattle.std.specs.Int.Signed.{le_z}
 use Rattle.loops.specs.Over.{span}
 use Rattle.levels.specs.declared.Slot.{Slot}
@@ -18,7 +18,7 @@ unfoldable pub offered : ℕ → Option Slot → ℕ → Picks → Picks
 offered limit None dir p = p
 offered limit (Some s) dir p =
     cond (leb limit p.count) p
-    (cond (get_or p.taken (s.0 * 2 + dir) false) p (pushed (record { reference = s; tgt = negsuc 0; dir = dir }) p))
+    (cond (get_or p.taken (s.0 * 2 + dir) false) p (pushed (record { reference = s; tgt = None; dir = dir }) p))
 
 -- a candidate, if it has a reference later than itself, or with late off an earlier one
 unfoldable pub with_side : Pocs → Bool → Option Slot → Option Slot

@@ -189,11 +189,11 @@ fn same_side(d: i32, e: i32, late: bool) -> bool
     if late { 0 < d && 0 < e } else { d < 0 && e < 0 }
 }
 
-/// A source that is picked: its slot, its target slot or -1 for any, and the direction, 1 or 0.
+/// A source that is picked: its slot, its target slot or `None` for any, and the direction, 1 or 0.
 #[derive(Clone, Copy)]
 pub struct MfmvRef {
     pub reference: Slot,
-    pub tgt: i8,
+    pub tgt: Option<Slot>,
     pub dir: u8,
 }
 
@@ -234,7 +234,7 @@ impl Picks {
         if self.count < limit && !self.taken[reference.index() * 2 + usize::from(dir)] {
             self.push(MfmvRef {
                 reference,
-                tgt: -1,
+                tgt: None,
                 dir,
             });
         }

@@ -3,7 +3,6 @@ pub mod Keeps
 pub mod Owned
 pub mod Order
 pub mod Lent
-pub mod Switch
 pub mod Turns
 pub mod Held
 pub mod Borrows

@@ -25,6 +25,6 @@ returns c =
     let d = c.diff-cur.result in
     let e : nat_abs d ≤ 31 = omega (arith, m, c.if-unsigned_abs-gt31.false) in
     let g : SFits w8 d = omega (signed, ud d) in
-    let t : SFits w8 c.args.p.now.tgt = search rules in
+    let t : SFits w8 c.target_byte.result = search rules in
     let x = simp back at c.factors.ensures in let y = simp back at c.factors-2.ensures in
-    rw (← k, le-ltb _ _ e) (simp back (rw (y, x, c.ref2idx_of.ensures, c.ref2ref_of-ref2ref.ensures, c.hint-hint.ensures, c.index.ensures)))
+    rw (← k, le-ltb _ _ e) (simp back (rw (y, x, c.ref2idx_of.ensures, c.ref2ref_of-ref2ref.ensures, c.hint-hint.ensures, c.index.ensures, ← c.target_byte.ensures)))
