@@ -29,8 +29,8 @@ pub fn topo_insert(o: Order, links: &[[Option<Slot>; 7]; 7], slot: Slot) -> Orde
         return st;
     }
     st.place[at] = 0;
-    for n in 0..7 {
-        if let Some(r) = links[at][n] {
+    for &link in &links[at] {
+        if let Some(r) = link {
             if r.0 < 7 {
                 let q = st.place[r.index()];
                 if q == 7 {
@@ -57,6 +57,7 @@ pub fn topo_order(links: &[[Option<Slot>; 7]; 7], n: usize) -> Order
         place: [7u8; 7],
         count: 0,
     };
+    // By its number: a slot's number is what is entered.
     for i in 0..n {
         // `as`, as no From goes from usize to u8: i is below 7.
         o = topo_insert(o, links, Slot(i as u8));
