@@ -37,10 +37,7 @@ impl<'a> Field<'a> {
         requires { IsVectorWithin self.now at }
         ensures { result ≡ vector_in self.now at }
     {
-        Mv {
-            y: self.y[at],
-            x: self.x[at],
-        }
+        store::vector_at(self.y, self.x, at)
     }
 
     /// The vector at a place, none where it is empty.
@@ -48,8 +45,7 @@ impl<'a> Field<'a> {
         requires { IsVectorWithin self.now at }
         ensures { result ≡ held (vector_in self.now at) }
     {
-        let v = self.vector(at);
-        (!mv::is_empty(v)).then_some(v)
+        store::cell_at(self.y, self.x, at)
     }
 
     /// Writes a vector with its reference byte.

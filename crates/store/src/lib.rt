@@ -29,6 +29,25 @@ fn set_all<T: Copy>(line: &mut [T], v: T)
     }
 }
 
+/// The vector at a place of two lists, its y and its x.
+pub fn vector_at(y: &[i32], x: &[i32], at: usize) -> Mv
+    requires y { at < length y.now }
+    requires x { at < length x.now }
+    ensures { result ≡ vec (get_or y.now at (pos 0)) (get_or x.now at (pos 0)) }
+{
+    Mv { y: y[at], x: x[at] }
+}
+
+/// The vector at a place of two lists, none where it is empty.
+pub fn cell_at(y: &[i32], x: &[i32], at: usize) -> Option<Mv>
+    requires y { at < length y.now }
+    requires x { at < length x.now }
+    ensures { result ≡ held (vec (get_or y.now at (pos 0)) (get_or x.now at (pos 0))) }
+{
+    let v = vector_at(y, x, at);
+    (!mv::is_empty(v)).then_some(v)
+}
+
 impl<'a, T: Copy> Pairs<'a, T> {
     /// The y and x at a place.
     pub fn at(&self, i: usize) -> (T, T)
@@ -70,10 +89,7 @@ impl<'a> Pairs<'a, i32> {
         requires { IsWithinPairs self.now i }
         ensures { result ≡ vec (get_or self.now.y.now i (pos 0)) (get_or self.now.x.now i (pos 0)) }
     {
-        Mv {
-            y: self.y[i],
-            x: self.x[i],
-        }
+        vector_at(self.y, self.x, i)
     }
 
     /// The vector at a place, none where it is empty.
@@ -81,8 +97,7 @@ impl<'a> Pairs<'a, i32> {
         requires { IsWithinPairs self.now i }
         ensures { result ≡ held (vec (get_or self.now.y.now i (pos 0)) (get_or self.now.x.now i (pos 0))) }
     {
-        let v = self.vector(i);
-        (!mv::is_empty(v)).then_some(v)
+        cell_at(self.y, self.x, i)
     }
 
     /// Writes a vector.
