@@ -6,7 +6,7 @@ ghost use Rattle.std.specs.Int.Signed.{lt_z};
 ghost use Rattle.intops.specs.Bounds.{Within};
 ghost use Rattle.mv.specs.Projection.{past_range, scale_mv};
 ghost use Rattle.store.specs.Store.{byte_cell};
-ghost use Rattle.tile.specs.Layout.{cells_of};
+ghost use Rattle.tile.specs.Layout.{on_step, cells_of, moved};
 ghost use Rattle.tile.specs.Tiles.{geometry};
 ghost use Rattle.traj.specs.Traj.{clipped, turned};
 ghost use Rattle.project.specs.Project.{ref2ref, ref2idx, right_side, takes, to_source, to_reference, near_source};
@@ -122,6 +122,16 @@ fn back_cells(v: i32) -> i32
     ensures { result ≡ neg_ℤ (cells_of v) }
 {
     -tile::cells_of(v)
+}
+
+/// The sampled row or column that a vector's component leads back to from `x`, also where the
+/// vector doesn't land there. For callers with tests of their own.
+// `landing` doesn't call it: it tests the row and the column before they are sampled too.
+pub fn back_at(t: &Tile, x: usize, v: i32) -> usize
+    requires low { x < 8192 }
+    ensures { result ≡ on_step (geometry t.now) (moved x (neg_ℤ (cells_of v))) }
+{
+    t.on_step(tile::moved_by(x, back_cells(v)))
 }
 
 /// The sampled cell that a saved vector leads back to from `from`, if it lands there: in the
