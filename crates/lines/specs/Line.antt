@@ -73,26 +73,22 @@ refused s = finds NotALine s
 
 -- ---- the word
 
--- a word has at most so many letters
-abbrev pub most_letters : ℕ
-most_letters = 16
-
--- the word and the letter b behind it, if there is room
-unfoldable pub push_letter : ℕ → State → List ℕ → State × List ℕ
-push_letter b s w =
-    cond (eqb (length w) most_letters)
+-- the word and the letter b behind it, if there is room: a word has at most so many letters
+unfoldable pub push_letter : ℕ → ℕ → State → List ℕ → State × List ℕ
+push_letter room b s w =
+    cond (eqb (length w) room)
     (refused s, w)
     (goes_to Word s, w ++ b ∷ [])
 
 -- the first byte of a line: its end, the mark of a comment, or a letter
-unfoldable pub start_step : ℕ → State → List ℕ → State × List ℕ
-start_step b s w =
+unfoldable pub start_step : ℕ → ℕ → State → List ℕ → State × List ℕ
+start_step room b s w =
     cond (eqb b newline) (next_line s, w)
-    (cond (eqb b hash) (goes_to Comment s, w) (cond (is_letter b) (push_letter b s w) (refused s, w)))
+    (cond (eqb b hash) (goes_to Comment s, w) (cond (is_letter b) (push_letter room b s w) (refused s, w)))
 
 -- the word goes on, or a space ends it
-unfoldable pub word_step : ℕ → State → List ℕ → State × List ℕ
-word_step b s w = cond (is_letter b) (push_letter b s w) (cond (eqb b space) (goes_to Number s, w) (refused s, w))
+unfoldable pub word_step : ℕ → ℕ → State → List ℕ → State × List ℕ
+word_step room b s w = cond (is_letter b) (push_letter room b s w) (cond (eqb b space) (goes_to Number s, w) (refused s, w))
 
 -- ---- a number
 
@@ -141,33 +137,34 @@ comment_step b s = cond (eqb b newline) (next_line s) s
 
 -- ---- the reader
 
--- the reader between two bytes: the state, the word and the numbers so far, and how many numbers a line may have
+-- the reader between two bytes: the state, the word and the numbers so far, and how many letters and how many numbers a line may have
 pub record Reader : Type 0 where
   pub state : State
   pub word : List ℕ
   pub numbers : List ℤ
+  pub room : ℕ
   pub most : ℕ
 
-abbrev pub reader : State → List ℕ → List ℤ → ℕ → Reader
-reader s w n most = record { state = s; word = w; numbers = n; most = most }
+abbrev pub reader : State → List ℕ → List ℤ → ℕ → ℕ → Reader
+reader s w n room most = record { state = s; word = w; numbers = n; room = room; most = most }
 
-abbrev pub seen : {N : ℕ} → TheReader N → Reader
-seen {N} r = reader r.state r.word.items r.numbers.items N
+abbrev pub seen : {W N : ℕ} → TheReader W N → Reader
+seen {W} {N} r = reader r.state r.word.items r.numbers.items W N
 
 -- the reader with another state and word, another state and numbers, another state
 abbrev pub with_word : Reader → State × List ℕ → Reader
-with_word r p = reader p.0 p.1 r.numbers r.most
+with_word r p = reader p.0 p.1 r.numbers r.room r.most
 
 abbrev pub with_numbers : Reader → State × List ℤ → Reader
-with_numbers r p = reader p.0 r.word p.1 r.most
+with_numbers r p = reader p.0 r.word p.1 r.room r.most
 
 abbrev pub with_state : Reader → State → Reader
-with_state r s = reader s r.word r.numbers r.most
+with_state r s = reader s r.word r.numbers r.room r.most
 
 -- what the byte b makes of it, where p was to come next
 abbrev pub step_at : Place → ℕ → Reader → Reader
-step_at Start b r = with_word r (start_step b r.state r.word)
-step_at Word b r = with_word r (word_step b r.state r.word)
+step_at Start b r = with_word r (start_step r.room b r.state r.word)
+step_at Word b r = with_word r (word_step r.room b r.state r.word)
 step_at Number b r = with_state r (number_step b r.state)
 step_at Digits b r = with_numbers r (digits_step r.most b r.state r.numbers)
 step_at Comment b r = with_state r (comment_step b r.state)

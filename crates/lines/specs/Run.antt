@@ -13,17 +13,17 @@ kept i l s = record { input = i; line = l; state = s }
 
 -- a turn: the line after the last is read, and then taken; k is what the turn finds, m what it leaves
 pub record Turned {S : Type 0} (Taken : Reader → S → S → Type 0) (k m : Kept S) : Type 0 where
-  pub reads : Reads (2 ^ 64 - 1) k.input (reader (next_line k.line.state) [] [] k.line.most) m.input m.line
+  pub reads : Reads (2 ^ 64 - 1) k.input (reader (next_line k.line.state) [] [] k.line.room k.line.most) m.input m.line
   pub takes : Taken m.line k.state m.state
 
--- a run of so many turns, over lines of at most so many numbers, and what it left: each turn goes on where the one before it stopped, and only the last may have ended the run
-pub data Ran {S : Type 0} (most : ℕ) (IsNew : S → Type 0) (Taken : Reader → S → S → Type 0) (over : S → Bool) : ℕ → Kept S → Type 0 where
-  none : {k : Kept S} → k.line ≡ reader (before 0 0 0) [] [] most → IsNew k.state → Ran most IsNew Taken over 0 k
-  then : {n : ℕ} {k m : Kept S} → Ran most IsNew Taken over n k → over k.state ≡ false → Turned Taken k m → Ran most IsNew Taken over (suc n) m
+-- a run of so many turns, over lines of at most so many letters and numbers, and what it left: each turn goes on where the one before it stopped, and only the last may have ended the run
+pub data Ran {S : Type 0} (room most : ℕ) (IsNew : S → Type 0) (Taken : Reader → S → S → Type 0) (over : S → Bool) : ℕ → Kept S → Type 0 where
+  none : {k : Kept S} → k.line ≡ reader (before 0 0 0) [] [] room most → IsNew k.state → Ran room most IsNew Taken over 0 k
+  then : {n : ℕ} {k m : Kept S} → Ran room most IsNew Taken over n k → over k.state ≡ false → Turned Taken k m → Ran room most IsNew Taken over (suc n) m
 
 -- the end of a run that left this line and this state: its line has ended the run, or no turn may follow
-pub record Ended {S : Type 0} (most : ℕ) (IsNew : S → Type 0) (Taken : Reader → S → S → Type 0) (over : S → Bool) (line : Reader) (state : S) : Type 0 where
+pub record Ended {S : Type 0} (room most : ℕ) (IsNew : S → Type 0) (Taken : Reader → S → S → Type 0) (over : S → Bool) (line : Reader) (state : S) : Type 0 where
   pub turns : ℕ
   pub input : List ℕ
   pub is_end : over state ≡ false → turns ≡ 2 ^ 64
-  pub ran : Ran most IsNew Taken over turns (kept input line state)
+  pub ran : Ran room most IsNew Taken over turns (kept input line state)

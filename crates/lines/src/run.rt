@@ -6,8 +6,8 @@ ghost use Rattle.lines.specs.Run.{Ended};
 use crate::Reader;
 use std::io::Read;
 
-/// What a program makes of lines of at most `N` numbers.
-pub trait TakesLines<const N: usize> {
+/// What a program makes of lines: words of at most `W` letters, and at most `N` numbers.
+pub trait TakesLines<const W: usize, const N: usize> {
     /// Nothing is taken yet.
     ghost IsNew: { Self → Type 0 };
     /// What the line that was read makes of it.
@@ -21,7 +21,7 @@ pub trait TakesLines<const N: usize> {
         ensures goes_on { over self.new ≡ false };
 
     /// Takes the line that was read.
-    fn take(&mut self, line: &Reader<N>)
+    fn take(&mut self, line: &Reader<W, N>)
         ensures { Taken (seen line.now) self.old self.new };
 
     /// Whether a line has ended the run.
@@ -31,12 +31,12 @@ pub trait TakesLines<const N: usize> {
 
 /// Takes line after line, until one ends the run or no turn may follow, and answers the last. A proved loop has to end,
 /// and nothing says that the input does.
-pub fn take_all<R: Read, T: TakesLines<N>, const N: usize>(
+pub fn take_all<R: Read, T: TakesLines<W, N>, const W: usize, const N: usize>(
     from: &mut R,
     input: &mut [u8],
     run: &mut T,
-) -> Reader<N>
-    ensures { Ended N T.IsNew T.Taken T.over (seen result) run.new }
+) -> Reader<W, N>
+    ensures { Ended W N T.IsNew T.Taken T.over (seen result) run.new }
 {
     let mut line = Reader::new();
     run.begin();

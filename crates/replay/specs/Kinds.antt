@@ -2,12 +2,14 @@
 use Rattle.std.specs.Prelude.{◌≡◌, ℕ, List, ℤ, Option, Some, None, IsSome, ◌≢◌, codes}
 use Rattle.lines.specs.declared.Found.TheVariants.{Line, AllRead}
 use Rattle.lines.specs.Line.{Reader, counted_up}
+use Rattle.cases.specs.declared.Verdict.{Verdict}
+use Rattle.cases.specs.declared.Verdict.TheVariants.{Agrees, Differs as Differing, NotACase as NoCase}
 use Rattle.leaf_cases.specs.Agrees.{ProjectAgrees, ScaleAgrees, QuantizeAgrees, DequantizeAgrees, HintAgrees, SmoothAgrees, GapAgrees}
 use Rattle.frame_cases.specs.FrameCase.{FrameAgrees}
 use Rattle.replay.specs.declared.kinds.Kind.{Kind}
 use Rattle.replay.specs.declared.kinds.Kind.TheVariants.{Project, Scale, Quantize, Dequantize, Hint, Smooth, Gap, Frame}
 use Rattle.replay.specs.declared.End.{End}
-use Rattle.replay.specs.declared.End.TheVariants.{AllRead as Over, NotACase}
+use Rattle.replay.specs.declared.End.TheVariants.{AllRead as Over, Differs, NotACase}
 
 -- the word of a kind
 abbrev pub name : Kind → List ℕ
@@ -41,6 +43,12 @@ Holds n Hint = HintAgrees n
 Holds n Smooth = SmoothAgrees n
 Holds n Gap = GapAgrees n
 Holds n Frame = FrameAgrees n
+
+-- how a verdict ends the run, if it does
+abbrev pub end_of : Verdict → Option End
+end_of Agrees = None
+end_of Differing = Some Differs
+end_of NoCase = Some NotACase
 
 -- a case of this kind leaves the run: it goes on if the case holds and is counted; else it ends, not as one that has read all, and nothing is counted
 pub record Judged (k : Kind) (n : List ℤ) (before after : List ℕ) (r : Option End) : Type 0 where

@@ -17,6 +17,6 @@ Takes l r s = Taken l r.tallies s.tallies s.ended
 abbrev pub over : Replay → Bool
 over r = is_some r.ended
 
--- the end of a run that left this line and this: a line has at most 1024 numbers
+-- the end of a run that left this line and this: a line has at most 16 letters and 1024 numbers
 abbrev pub IsEnd : Reader → Replay → Type 0
-IsEnd l r = Ended 1024 IsNew Takes over l r
+IsEnd l r = Ended 16 1024 IsNew Takes over l r

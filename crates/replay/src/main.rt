@@ -17,7 +17,7 @@ ghost use Rattle.std.specs.Prelude.{◌≡◌, ◌+◌, ◌≤◌, ◌++◌, len
 ghost use Rattle.std.specs.Io.KnownBytes.{Appends};
 ghost use Rattle.arrayvec.specs.ArrayVec.{array_vec_len};
 ghost use Rattle.lines.specs.Line.{seen};
-ghost use Rattle.replay.specs.Kinds.{Judged, Taken};
+ghost use Rattle.replay.specs.Kinds.{end_of, Judged, Taken};
 ghost use Rattle.replay.specs.Report.{end_text, report_text};
 ghost use Rattle.replay.specs.Run.{IsEnd};
 
@@ -31,7 +31,7 @@ use lines::{Found, report};
 use std::io::Write;
 
 // A reader of cases.
-type Reader = lines::Reader<1024>;
+type Reader = lines::Reader<16, 1024>;
 
 /// How a line has ended the run.
 #[derive(Clone, Copy, Debug, PartialEq, Eq)]
@@ -51,18 +51,27 @@ struct Replay {
     tallies: Tallies,
 }
 
-// What becomes of the run after a case of this kind: it is counted if it agrees.
-fn take_case(kind: Kind, numbers: &[i64], tallies: &mut Tallies) -> Option<End>
-    ensures { Judged kind numbers.now tallies.old tallies.new result }
+// How a verdict ends the run, if it does.
+fn end_of(verdict: Verdict) -> Option<End>
+    ensures { result ≡ end_of verdict }
 {
-    match kind.judge(numbers) {
-        Verdict::Agrees => {
-            report::count_up(tallies, kind.index());
-            None
-        }
+    match verdict {
+        Verdict::Agrees => None,
         Verdict::Differs => Some(End::Differs),
         Verdict::NotACase => Some(End::NotACase),
     }
+}
+
+// What becomes of the run after a case of this kind: it is counted if it agrees.
+#[tactic(auto, using(crate::proofs::Laws::agrees, crate::proofs::Laws::no_end))]
+fn take_case(kind: Kind, numbers: &[i64], tallies: &mut Tallies) -> Option<End>
+    ensures { Judged kind numbers.now tallies.old tallies.new result }
+{
+    let ended = end_of(kind.judge(numbers));
+    if ended.is_none() {
+        report::count_up(tallies, kind.index());
+    }
+    ended
 }
 
 fn take_line(line: &Reader, tallies: &mut Tallies) -> Option<End>
@@ -78,7 +87,7 @@ fn take_line(line: &Reader, tallies: &mut Tallies) -> Option<End>
     }
 }
 
-impl TakesLines<1024> for Replay {
+impl TakesLines<16, 1024> for Replay {
     ghost use Rattle.replay.specs.Run.{IsNew, Takes, over};
 
     ghost IsNew = { IsNew };
@@ -153,7 +162,7 @@ fn write_end<W: Write>(
 {
     out.clear();
     put_report(run, last, out);
-    text::write_out(to, out)
+    text::write_out(to, out.as_slice())
 }
 
 // Makes the buffers once, and lends them.

@@ -18,6 +18,6 @@ Takes l r s = Taken r.book l r.lists s.lists r.tallies s.tallies s.book
 abbrev pub over : Replay → Bool
 over r = is_some r.book.ended
 
--- the end of a run that left this line and this: a line has at most 256 numbers
+-- the end of a run that left this line and this: a line has at most 16 letters and 256 numbers
 abbrev pub IsEnd : Reader → Replay → Type 0
-IsEnd l r = Ended 256 IsNew Takes over l r
+IsEnd l r = Ended 16 256 IsNew Takes over l r

@@ -75,5 +75,5 @@ pub fn write_end<W: Write>(
 {
     out.clear();
     put_report(run, last.state.line, out);
-    text::write_out(to, out)
+    text::write_out(to, out.as_slice())
 }

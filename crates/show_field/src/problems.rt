@@ -127,7 +127,7 @@ fn write_line<W: Write, const N: usize>(
 {
     out.clear();
     put_line(p, out);
-    text::write_out(to, out)
+    text::write_out(to, out.as_slice())
 }
 
 /// Writes the line of a problem.

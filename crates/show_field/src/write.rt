@@ -97,7 +97,7 @@ impl<'f, 'c> View<'f, 'c> {
     {
         out.clear();
         self.put_part(k, out);
-        text::write_out(to, out)
+        text::write_out(to, out.as_slice())
     }
 
     // Writes all parts, and answers how many they are.

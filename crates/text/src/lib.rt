@@ -57,10 +57,10 @@ pub fn write_before(n: i32, line: &mut [u8], end: usize) -> usize
 }
 
 /// Writes all of `out` to `to`.
-pub fn write_out<W: Write, const N: usize>(to: &mut W, out: &ArrayVec<u8, N>) -> Result<()>
-    ensures { OnOk result (Appends (W.contents to.old) (W.contents to.new) out.now.items) }
+pub fn write_out<W: Write>(to: &mut W, out: &[u8]) -> Result<()>
+    ensures { OnOk result (Appends (W.contents to.old) (W.contents to.new) out.now) }
 {
-    to.write_all(out.as_slice())
+    to.write_all(out)
 }
 
 /// What a call of `read_full` did: how many bytes lie at the front of the buffer, and whether a read failed.
