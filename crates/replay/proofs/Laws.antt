@@ -1,5 +1,5 @@
 -- Laws of verdicts, and of lines that are put one behind the other. Assumes nothing.
-use Rattle.std.proofs.Common.{◌≡◌, ◌≢◌, refl, ℕ, ◌+◌, ◌<◌, List, ◌++◌, append_assoc, add-one, length, drop, drop-cons, get_or, flat_map, Option, Some, None, rules}
+use Rattle.std.proofs.Common.{◌≡◌, ◌≢◌, ℕ, ◌+◌, ◌<◌, List, ◌++◌, append_assoc, add-one, length, drop, drop-cons, get_or, flat_map, Option, Some, None, rules}
 use Rattle.cases.specs.declared.Verdict.{Verdict}
 use Rattle.cases.specs.declared.Verdict.TheVariants.{Agrees, Differs as Differing, NotACase as NoCase}
 use Rattle.cases.specs.Verdicts.{WhenAgrees}

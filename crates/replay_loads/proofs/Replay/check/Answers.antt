@@ -3,7 +3,7 @@ use Rattle.cases.proofs.Verdicts.{passed}
 use Rattle.replay_loads.specs.declared.book.End.TheVariants.{NotALine}
 use Rattle.replay_loads.specs.Calls.{stops}
 use Rattle.replay_loads.proofs.Laws.{not_a_line, checked_as}
-use Rattle.replay_loads.proofs.check.Goals as goal
+use Rattle.replay_loads.proofs.Replay.check.Goals as goal
 
 pub returns-then-not-may_check : goal.returns-then-not-may_check
 returns-then-not-may_check c = stops {why = NotALine} not_a_line refl c.end.ensures refl

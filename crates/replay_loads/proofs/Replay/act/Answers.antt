@@ -1,5 +1,5 @@
 use Rattle.std.proofs.Common.{refl}
-use Rattle.replay_loads.proofs.act.Goals as goal
+use Rattle.replay_loads.proofs.Replay.act.Goals as goal
 
 pub returns-in-Case : goal.returns-in-Case
 returns-in-Case c = let e = c.begin_case.ensures in rw c.in-Case.is (e.book, e.cells, e.want, refl)
