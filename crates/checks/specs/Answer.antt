@@ -17,3 +17,7 @@ abbrev pub MakesTile : Call → Result Tile Refusal → Type 0
 MakesTile c r =
     MatchResult r (λ t. (setup_in_range c.setup ≡ true) × (tile_fits c ≡ true) × (geometry t ≡ tile_of c))
     (λ e. ((setup_in_range c.setup && tile_fits c) ≡ false) × ((s : Store) → number_of e ≡ answer c s))
+
+-- the tile of a call that passes all tests, or the number of the first that turns it back
+abbrev pub AnswersCall : Call → Store → Result Tile Refusal → Type 0
+AnswersCall c s r = MatchResult r (λ t. (answer c s ≡ 0) × (geometry t ≡ tile_of c)) (λ e. number_of e ≡ answer c s)

@@ -1,12 +1,22 @@
 -- What the contracts of the tests speak of besides the definitions. Assumes nothing.
-use Rattle.std.specs.Prelude.{Bool, false, not, ◌||◌, List, ℕ, ◌+◌, ◌-◌, ◌*◌, ◌/◌, ◌≤◌, ℤ, negsuc, length, get_or}
+use Rattle.std.specs.Prelude.{◌≡◌, Bool, false, not, ◌||◌, List, ℕ, ◌+◌, ◌-◌, ◌*◌, ◌/◌, ◌≤◌, ℤ, negsuc, length, get_or}
 use Rattle.intops.specs.Choice.{eq_z}
 use Rattle.entry.specs.declared.Source.{Source}
 use Rattle.frame.specs.declared.Frame.{Frame}
 use Rattle.frame.specs.Frame.{no_source}
+use Rattle.store.specs.Store.{Store}
 use Rattle.tile.specs.Geometry.{Geometry}
 use Rattle.project.specs.Project.{saved_at, saved_ref, saved_mv}
 use Rattle.project.specs.Tested.{all_below, block_fine, row_fine}
+use Rattle.checks.specs.declared.Lengths.{Lengths}
+
+-- the lengths of the lists of which no test reads more
+pub record AreLengths (l : Lengths) (s : Store) : Type 0 where
+  pub field_y : length s.field_y ≡ l.field_y
+  pub field_x : length s.field_x ≡ l.field_x
+  pub field_ref : length s.field_ref ≡ l.field_ref
+  pub map_y : length s.map_y ≡ l.map_y
+  pub map_x : length s.map_x ≡ l.map_x
 
 -- seven planes of H × stride blocks of six bytes
 abbrev pub PlanesHeld : Geometry → List ℤ → Type 0

@@ -4,9 +4,8 @@
 ghost use Rattle.std.specs.Prelude.{◌≡◌, true, cond, ◌&&◌, List, [], ◌+◌, ◌-◌, ◌*◌, ◌/◌, ◌≤◌, ◌<◌, leb, ℤ, pos, negsuc, nat_abs, length, get_or, MatchResult};
 ghost use Rattle.levels.specs.Answer.{number_of};
 ghost use Rattle.frame.specs.Frame.{no_source};
-ghost use Rattle.store.specs.Store.{Store, vec};
-ghost use Rattle.store.specs.Lent.{with_trajs};
-ghost use Rattle.tile.specs.Lent.{IsTrajHeld};
+ghost use Rattle.store.specs.Store.{Store, pack, vec, with_traj};
+ghost use Rattle.tile.specs.Sound.{TrajHeld};
 ghost use Rattle.tile.specs.Tiles.{geometry};
 ghost use Rattle.traj.specs.Traj.{traj_in_range};
 ghost use Rattle.field.specs.Lent.{store_of};
@@ -15,8 +14,8 @@ ghost use Rattle.project.specs.Tested.{all_below, within, entry_in_range, source
 ghost use Rattle.load.specs.Asked.{call_of};
 ghost use Rattle.load.specs.Load.{side_of, block_of, edge_of, wide_of, high_of, stride_of, tile_of};
 ghost use Rattle.load.specs.Calls.{setup_in_range, tile_fits, long_enough, contents_fine, answer};
-ghost use Rattle.checks.specs.Answer.{Tests, MakesTile};
-ghost use Rattle.checks.specs.Code.{PlanesHeld, line_fine, is_fine, fine_at};
+ghost use Rattle.checks.specs.Answer.{Tests, MakesTile, AnswersCall};
+ghost use Rattle.checks.specs.Code.{AreLengths, PlanesHeld, line_fine, is_fine, fine_at};
 
 use entry::Source;
 use field::Field;
@@ -246,30 +245,61 @@ fn field_rows(setup: &Frame, whole_frame: bool) -> usize
     }
 }
 
-/// Test 11: the planes, of which the length is told, and the store are as long as the frame needs.
+/// How long the lists are of which no test reads more: the field's and the maps'.
+#[derive(Clone, Copy)]
+pub struct Lengths {
+    /// The field's y.
+    pub field_y: usize,
+    /// The field's x.
+    pub field_x: usize,
+    /// Its reference bytes.
+    pub field_ref: usize,
+    /// The maps' y.
+    pub map_y: usize,
+    /// The maps' x.
+    pub map_x: usize,
+}
+
+impl Lengths {
+    /// Those of a field and of maps that are lent.
+    pub fn of(field: &Field<'_>, maps: &Pairs<'_, i8>) -> Lengths
+        ensures { (ty tx : List ℤ) → AreLengths result (pack field.now.y.now field.now.x.now field.now.reference.now ty tx maps.now.y.now maps.now.x.now) }
+    {
+        Lengths {
+            field_y: field.y.len(),
+            field_x: field.x.len(),
+            field_ref: field.reference.len(),
+            map_y: maps.y.len(),
+            map_x: maps.x.len(),
+        }
+    }
+}
+
+/// Test 11: the planes and the lists of the store are as long as the frame needs. Of each the
+/// length is told.
 #[tactic(auto, unfolding(load::specs::Calls::long_enough, load::specs::Load::tile_of, tile::specs::Layout::row_cells))]
 pub fn check_lengths(
     setup: &Frame,
     asked: Asked,
     planes: usize,
-    field: &Field<'_>,
-    trajectories: &Pairs<'_, i32>,
-    maps: &Pairs<'_, i8>,
+    traj_y: usize,
+    traj_x: usize,
+    lengths: Lengths,
 ) -> Result<(), Refusal>
-    ensures { (p : List ℤ) → length p ≡ planes
-        → Tests (long_enough (call_of setup.now asked p) (store_of field.now trajectories.now maps.now)) Refusal.TooShort result }
+    ensures { (p : List ℤ) (s : Store) → length p ≡ planes → length s.traj_y ≡ traj_y → length s.traj_x ≡ traj_x → AreLengths lengths s
+        → Tests (long_enough (call_of setup.now asked p) s) Refusal.TooShort result }
 {
     let stride = stride_of(setup);
     let cells = field_rows(setup, asked.whole_frame) * stride;
     let row = side_of(setup) * stride;
     let long = (6 * (7 * (high_of(setup) * stride)) <= planes)
-        & (cells <= field.y.len())
-        & (cells <= field.x.len())
-        & (cells <= field.reference.len())
-        & (7 * row <= trajectories.y.len())
-        & (7 * row <= trajectories.x.len())
-        & (21 * row <= maps.y.len())
-        & (21 * row <= maps.x.len());
+        & (cells <= lengths.field_y)
+        & (cells <= lengths.field_x)
+        & (cells <= lengths.field_ref)
+        & (7 * row <= traj_y)
+        & (7 * row <= traj_x)
+        & (21 * row <= lengths.map_y)
+        & (21 * row <= lengths.map_x);
     if long { Ok(()) } else { Err(Refusal::TooShort) }
 }
 
@@ -358,15 +388,15 @@ fn traj_in_range(v: Mv) -> bool
 }
 
 // The first n trajectories. The flag is joined without a branch: there are 7 x S x stride of them.
-fn trajs_in_range(trajectories: &Pairs<'_, i32>, n: usize) -> bool
-    requires y { n ≤ length trajectories.now.y.now }
-    requires x { n ≤ length trajectories.now.x.now }
-    ensures { result ≡ all_below n (λ i. traj_in_range (vec (get_or trajectories.now.y.now i (pos 0)) (get_or trajectories.now.x.now i (pos 0)))) }
+fn trajs_in_range(traj_y: &[i32], traj_x: &[i32], n: usize) -> bool
+    requires y { n ≤ length traj_y.now }
+    requires x { n ≤ length traj_x.now }
+    ensures { result ≡ all_below n (λ i. traj_in_range (vec (get_or traj_y.now i (pos 0)) (get_or traj_x.now i (pos 0)))) }
 {
     let mut ok = true;
-    // By index: `vector` reads both lists, which a zip of their parts would do here.
+    // By index: `vector_at` reads both lists, which a zip of their parts would do here.
     for i in 0..n {
-        ok &= traj_in_range(trajectories.vector(i));
+        ok &= traj_in_range(store::vector_at(traj_y, traj_x, i));
     }
     ok
 }
@@ -377,16 +407,17 @@ pub fn check_contents(
     setup: &Frame,
     t: &Tile,
     planes: &[i8],
-    trajectories: &Pairs<'_, i32>,
+    traj_y: &[i32],
+    traj_x: &[i32],
 ) -> Result<(), Refusal>
     requires setup { setup_in_range setup.now ≡ true }
     requires planes { PlanesHeld (geometry t.now) planes.now }
-    requires held { IsTrajHeld (geometry t.now) trajectories.now }
+    requires held { TrajHeld (geometry t.now) traj_y.now traj_x.now }
     ensures { (a : Asked) (s : Store) → tile_of (call_of setup.now a planes.now) ≡ geometry t.now
-        → Tests (contents_fine (call_of setup.now a planes.now) (with_trajs s trajectories.now)) Refusal.ContentsOutOfRange result }
+        → Tests (contents_fine (call_of setup.now a planes.now) (with_traj s traj_y.now traj_x.now s.map_y s.map_x)) Refusal.ContentsOutOfRange result }
 {
     let n = 7 * (t.side * t.stride);
-    let fine = sources_fine(planes, t, setup) & trajs_in_range(trajectories, n);
+    let fine = sources_fine(planes, t, setup) & trajs_in_range(traj_y, traj_x, n);
     if fine {
         Ok(())
     } else {
@@ -395,8 +426,33 @@ pub fn check_contents(
 }
 
 /// The tile that a load is asked for, or the first test that turns the load back. No test reads the
-/// field or the maps: their lengths are enough.
+/// field or the maps: their lengths are told.
 #[tactic(auto, unfolding(load::specs::Calls::answer))]
+pub fn check_call(
+    setup: &Frame,
+    asked: Asked,
+    planes: &[i8],
+    traj_y: &[i32],
+    traj_x: &[i32],
+    lengths: Lengths,
+) -> Result<Tile, Refusal>
+    ensures { (s : Store) → AreLengths lengths s
+        → AnswersCall (call_of setup.now asked planes.now) (with_traj s traj_y.now traj_x.now s.map_y s.map_x) result }
+{
+    let t = tile_of(setup, asked)?;
+    check_lengths(
+        setup,
+        asked,
+        planes.len(),
+        traj_y.len(),
+        traj_x.len(),
+        lengths,
+    )?;
+    check_contents(setup, &t, planes, traj_y, traj_x)?;
+    Ok(t)
+}
+
+/// The same of a store that is lent.
 pub fn check_load(
     setup: &Frame,
     asked: Asked,
@@ -405,11 +461,15 @@ pub fn check_load(
     trajectories: &Pairs<'_, i32>,
     maps: &Pairs<'_, i8>,
 ) -> Result<Tile, Refusal>
-    ensures { let c = call_of setup.now asked planes.now in let s = store_of field.now trajectories.now maps.now in
-        MatchResult result (λ t. (answer c s ≡ 0) × (geometry t ≡ tile_of c)) (λ e. number_of e ≡ answer c s) }
+    ensures { AnswersCall (call_of setup.now asked planes.now) (store_of field.now trajectories.now maps.now) result }
 {
-    let t = tile_of(setup, asked)?;
-    check_lengths(setup, asked, planes.len(), field, trajectories, maps)?;
-    check_contents(setup, &t, planes, trajectories)?;
-    Ok(t)
+    let lengths = Lengths::of(field, maps);
+    check_call(
+        setup,
+        asked,
+        planes,
+        trajectories.y,
+        trajectories.x,
+        lengths,
+    )
 }

@@ -18,6 +18,7 @@ ghost use Rattle.pass_cases.specs.Code.{code, Asks, Applies, program_of, Ran};
 mod pass;
 
 use cases::Verdict;
+use checks::Lengths;
 use field::Field;
 use frame::Frame;
 use intersect::Place;
@@ -93,7 +94,9 @@ fn accepted_tile(
 {
     let t = checks::tile_of(setup, asked)?;
     let planes = 6 * (7 * (checks::high_of(setup) * checks::stride_of(setup)));
-    checks::check_lengths(setup, asked, planes, field, trajectories, maps)?;
+    let lengths = Lengths::of(field, maps);
+    let (ys, xs) = (trajectories.y.len(), trajectories.x.len());
+    checks::check_lengths(setup, asked, planes, ys, xs, lengths)?;
     Ok(t)
 }
 

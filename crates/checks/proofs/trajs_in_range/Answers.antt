@@ -12,8 +12,8 @@ loop-i-init c = (omega arith, refl)
 
 pub loop-i-preserved : goal.loop-i-preserved
 loop-i-preserved c =
-    let l = c.loop-i in let p = c.args.trajectories.now in
-    (omega arith, all_turn (λ k. traj_in_range (vec (get_or p.y.now k (pos 0)) (get_or p.x.now k (pos 0)))) l.i l.ok _ l.invariant.1 (c.traj_in_range-ok.ensures ∙ ap traj_in_range c.vector.ensures))
+    let l = c.loop-i in let a = c.args in
+    (omega arith, all_turn (λ k. traj_in_range (vec (get_or a.traj_y.now k (pos 0)) (get_or a.traj_x.now k (pos 0)))) l.i l.ok _ l.invariant.1 (c.traj_in_range-ok.ensures ∙ ap traj_in_range c.vector_at.ensures))
 
 pub returns : goal.returns
 returns c = let l = c.loop-i in all_end _ _ l.i l.ok l.invariant.0 c.loop-i-test.false l.invariant.1

@@ -7,4 +7,4 @@ use Rattle.checks.proofs.trajs_in_range.Given as goal
 
 abbrev pub invariant-loop-i : goal.invariant-loop-i
 invariant-loop-i l =
-    (l.i ≤ l.n) × (l.ok ≡ all_below l.i (λ k. traj_in_range (vec (get_or l.trajectories.y.now k (pos 0)) (get_or l.trajectories.x.now k (pos 0)))))
+    (l.i ≤ l.n) × (l.ok ≡ all_below l.i (λ k. traj_in_range (vec (get_or l.traj_y k (pos 0)) (get_or l.traj_x k (pos 0)))))
