@@ -55,6 +55,7 @@ impl From<Result<Frame, Refusal>> for CSetup {
 }
 
 /// A setup as C hands it to a load: as it was given, but that switches are bytes, on where not 0.
+// `n_refs` beside the lists of seven: the record is C's, which has no list that knows its length.
 #[repr(C)]
 #[derive(Clone, Copy)]
 pub struct CFrame {

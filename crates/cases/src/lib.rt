@@ -77,6 +77,7 @@ pub fn seven<T: Copy + Default + TryFrom<i64, Error = TryFromIntError>>(
 }
 
 /// A size of a line; 0 where the number is none.
+// A function of its own: its contract says which size the number is, and `number` says it by the type's range.
 pub fn to_usize(v: i64) -> usize
     ensures { IsSize v → result ≡ nat_abs v }
 {

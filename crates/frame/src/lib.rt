@@ -12,6 +12,7 @@ use picks::{FrameHints, Hints, MfmvRef, Picks, Pocs};
 use std::array;
 
 /// The sources, and the mask of the slots that are used.
+// `n_mfmvs` beside the list of four: the record is C's, which has no list that knows its length.
 #[repr(C)]
 #[derive(Clone, Copy)]
 pub struct Sources {
@@ -51,6 +52,7 @@ pub struct Header {
 }
 
 /// The setup record.
+// `n_refs` beside the lists of seven: the record is C's, as that of the sources is.
 #[repr(C)]
 #[derive(Clone, Copy)]
 pub struct Frame {

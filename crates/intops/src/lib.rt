@@ -9,6 +9,7 @@ ghost use Rattle.intops.specs.Bits.{highest_bit};
 ghost use Rattle.intops.specs.Rounding.{round_div};
 
 /// The greater of two numbers.
+// This, imin and umax are std's `max` and `min` by the names of intops.rs: this crate has its functions.
 pub fn imax(a: i32, b: i32) -> i32
     ensures { result ≡ max_z a b }
 {

@@ -18,6 +18,7 @@ pub struct Saved {
 }
 
 /// The order hints that a header states: the frame's, its slots', and those that were saved with each slot. Any numbers.
+// `n_refs` beside the lists of seven, as a header states it: it may be above 7, and refusal 4 is for that.
 #[derive(Clone, Copy)]
 pub struct Pocs {
     /// How many bits an order hint has.

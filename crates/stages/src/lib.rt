@@ -80,6 +80,7 @@ pub fn fill_gap_trajs(trajectories: &mut Pairs<'_, i32>, t: &Tile, n_refs: usize
     ensures stored { (s : Store) → with_trajs s trajectories.new
         ≡ run (owns (geometry t.now)) (each 0 n_refs (fill_gap_traj (geometry t.now))) (with_trajs s trajectories.old) }
 {
+    // By its number: a slot's number is what the pass takes.
     for n in 0..n_refs {
         traj::fill_gap_traj(trajectories, t, n);
     }

@@ -14,6 +14,7 @@ use itoa::{Buffer, Integer};
 use std::io::{Read, Result, Write};
 
 /// The byte as a signed number of eight bits.
+// A function of its own: it says the number by `signed_byte`, the definition of callers, where std's `cast_signed` has one over any width.
 pub fn signed_byte(b: u8) -> i8
     ensures { result ≡ signed_byte b }
 {

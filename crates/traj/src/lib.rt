@@ -9,7 +9,8 @@ ghost use Rattle.store.specs.Program.{run};
 ghost use Rattle.tile.specs.Layout.{row_cells, place, traj_at};
 ghost use Rattle.tile.specs.Lent.{IsTrajHeld, IsMapHeld};
 ghost use Rattle.tile.specs.Owner.{owns};
-ghost use Rattle.tile.specs.Sound.{InTile, Sample, Gaps};
+ghost use Rattle.tile.specs.Sampled.{IsSampled};
+ghost use Rattle.tile.specs.Sound.{InTile, Gaps};
 ghost use Rattle.tile.specs.Tiles.{geometry};
 ghost use Rattle.traj.specs.Traj.{empty_trajs, put_gaps_traj, gap_traj, fill_gap_traj};
 ghost use Rattle.traj.specs.Code.{rows_filled, map_from, map_to, cell_or};
@@ -143,7 +144,7 @@ fn put_gaps_traj(
 // What fill_gap_traj does at a sampled cell.
 fn gap_traj(trajectories: &mut Pairs<'_, i32>, t: &Tile, n: usize, at: SampledCell)
     requires slot { n < 7 }
-    requires sampled { Sample (geometry t.now) at.start at.end at.y at.x }
+    requires sampled { IsSampled (geometry t.now) at }
     requires held { IsTrajHeld (geometry t.now) trajectories.old }
     requires step { t.now.step ≡ 2 }
     ensures same_borrow { IsSamePairs trajectories.new trajectories.old }
