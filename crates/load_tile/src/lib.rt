@@ -8,10 +8,10 @@ ghost use Rattle.tile.specs.Lent.{IsTrajHeld, IsMapHeld};
 ghost use Rattle.tile.specs.Owner.{owns};
 ghost use Rattle.tile.specs.Tiles.{geometry};
 ghost use Rattle.field.specs.Lent.{IsHeld, IsSameField, store_of};
-ghost use Rattle.load.specs.Asked.{call_of};
-ghost use Rattle.load.specs.Load.{load_tmvs};
+ghost use Rattle.load.specs.Load.{Call, load_tmvs};
 ghost use Rattle.checks.specs.Code.{PlanesHeld};
 ghost use Rattle.sources.specs.Code.{SourcesFine};
+ghost use Rattle.load_tile.specs.Code.{AsksFor};
 
 use field::Field;
 use frame::Frame;
@@ -41,8 +41,9 @@ pub fn load_tile(
     ensures same_field { IsSameField field.new field.old }
     ensures same_trajectories { IsSamePairs trajectories.new trajectories.old }
     ensures same_maps { IsSamePairs maps.new maps.old }
-    ensures stored { store_of field.new trajectories.new maps.new
-        ≡ run (owns (geometry t.now)) (load_tmvs (geometry t.now) (call_of setup.now asked planes.now))
+    ensures stored { (c : Call) → AsksFor c setup.now asked planes.now
+        → store_of field.new trajectories.new maps.new
+        ≡ run (owns (geometry t.now)) (load_tmvs (geometry t.now) c)
         (store_of field.old trajectories.old maps.old) }
 {
     stages::copy_rows(field, t, asked.whole_frame);

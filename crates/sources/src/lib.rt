@@ -8,8 +8,7 @@ ghost use Rattle.tile.specs.Lent.{IsTrajHeld, IsMapHeld};
 ghost use Rattle.tile.specs.Owner.{owns};
 ghost use Rattle.tile.specs.Tiles.{geometry};
 ghost use Rattle.field.specs.Lent.{IsHeld, IsSameField, store_of};
-ghost use Rattle.load.specs.Asked.{call_of};
-ghost use Rattle.load.specs.Load.{project_sources};
+ghost use Rattle.load.specs.Load.{Call, project_sources};
 ghost use Rattle.checks.specs.Code.{PlanesHeld};
 ghost use Rattle.sources.specs.Code.{SourcesFine};
 
@@ -37,8 +36,9 @@ pub fn project_sources(
     ensures same_field { IsSameField field.new field.old }
     ensures same_trajectories { IsSamePairs trajectories.new trajectories.old }
     ensures same_maps { IsSamePairs maps.new maps.old }
-    ensures stored { store_of field.new trajectories.new maps.new
-        ≡ run (owns (geometry t.now)) (project_sources (geometry t.now) (call_of setup.now asked planes.now))
+    ensures stored { (c : Call) → c.setup.sources ≡ setup.now.sources → c.setup.rp_ref ≡ setup.now.rp_ref → c.traj ≡ asked.traj → c.planes ≡ planes.now
+        → store_of field.new trajectories.new maps.new
+        ≡ run (owns (geometry t.now)) (project_sources (geometry t.now) c)
         (store_of field.old trajectories.old maps.old) }
 {
     let present = &setup.rp_ref;

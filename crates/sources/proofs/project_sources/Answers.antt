@@ -5,10 +5,9 @@ use Rattle.store.proofs.Lent.{at_holds, at_again, at_done}
 use Rattle.tile.specs.Owner.{owns}
 use Rattle.tile.specs.Tiles.{geometry}
 use Rattle.field.specs.Lent.{store_of}
-use Rattle.load.specs.Load.{project_sources}
 use Rattle.checks.proofs.Defaults.{bare, in_range_at, fine_default}
 use Rattle.sources.proofs.Defaults.{source_at_lem, looked}
-use Rattle.sources.proofs.Rounds.{source_at, parts, parts_lent}
+use Rattle.sources.proofs.Rounds.{source_at, parts, parts_lent, sources_done}
 use Rattle.sources.proofs.project_sources.Goals as goal
 
 pub loop-n-init : goal.loop-n-init
@@ -30,7 +29,7 @@ loop-n-preserved c =
     (λ u. k.ensures.stored ∙ ap (λ (p : Prog). run (owns t) p (store_of l.field l.trajectories l.maps)) (source_at_lem t a.asked.traj a.planes.now f.rp_ref f.sources.mfmv l.n))
 
 pub returns-clause-stored : goal.returns-clause-stored
-unfolding project_sources
 returns-clause-stored c =
     let a = c.args in let f = a.setup.now in let l = c.loop-n in let t = geometry a.t.now in
-    at_done parts_lent (owns t) (source_at t a.asked.traj f.rp_ref a.planes.now f.sources) 0 f.sources.n_mfmvs l.n _ _ c.loop-n-test.false l.invariant (store_of l.field l.trajectories l.maps)
+    λ q se pe te le. sources_done t q f.sources f.rp_ref a.asked.traj a.planes.now se pe te le _ _
+    (at_done parts_lent (owns t) (source_at t a.asked.traj f.rp_ref a.planes.now f.sources) 0 f.sources.n_mfmvs l.n _ _ c.loop-n-test.false l.invariant (store_of l.field l.trajectories l.maps))

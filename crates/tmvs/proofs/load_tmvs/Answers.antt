@@ -1,5 +1,5 @@
 -- `tmvs::load_tmvs` meets its contract. Assumes nothing.
-use Rattle.std.proofs.Common.{sym, arith, rules}
+use Rattle.std.proofs.Common.{refl, sym, arith, rules}
 use Rattle.levels.proofs.Refusals.{number_pos}
 use Rattle.store.specs.Store.{Store}
 use Rattle.field.specs.Lent.{store_of}
@@ -48,4 +48,4 @@ pub returns-clause-answer : goal.returns-clause-answer
 returns-clause-answer c = sym c.in_ok-t.ensures.0
 
 pub returns-clause-stored : goal.returns-clause-stored
-returns-clause-stored c = let s = (goal.at.returns-clause-stored c).Start in let e = c.in_ok-t.ensures in loaded (asked s) (was s) e.0 _ e.1 _ c.load_tile.ensures.stored
+returns-clause-stored c = let s = (goal.at.returns-clause-stored c).Start in let e = c.in_ok-t.ensures in loaded (asked s) (was s) e.0 _ e.1 _ (c.load_tile.ensures.stored (asked s) (record { setup = refl; whole_frame = refl; traj = refl; holes = refl; planes = refl }))
