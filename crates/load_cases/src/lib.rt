@@ -4,6 +4,7 @@
 
 ghost use Rattle.std.specs.Prelude.{◌≡◌, ◌+◌, ◌≤◌, length};
 ghost use Rattle.store.specs.Calls.{called};
+ghost use Rattle.store.specs.Store.{pack};
 ghost use Rattle.field.specs.Lent.{store_of};
 ghost use Rattle.load.specs.Asked.{call_of};
 ghost use Rattle.load.specs.Calls.{answer, load};
@@ -84,23 +85,50 @@ fn run_call(
 }
 
 /// Whether the lists of a store are the numbers that are wanted: every element, those that a load
-/// leaves alone too.
+/// leaves alone too. It takes shared lists, which a `Field` or `Pairs` can't hold.
 #[tactic(auto, using(crate::proofs::LoadCase::listed, crate::proofs::LoadCase::listed_bytes))]
 pub fn same_store(
+    field_y: &[i32],
+    field_x: &[i32],
+    field_ref: &[u8],
+    traj_y: &[i32],
+    traj_x: &[i32],
+    map_y: &[i8],
+    map_x: &[i8],
+    want: &[i64],
+) -> bool
+    ensures listed { WhenTrue result (StoreListed (pack field_y.now field_x.now field_ref.now traj_y.now traj_x.now map_y.now map_x.now) want.now) }
+{
+    cases::same(field_y, want, FIELD_Y)
+        && cases::same(field_x, want, FIELD_X)
+        && cases::same(field_ref, want, FIELD_REF)
+        && cases::same(traj_y, want, TRAJ_Y)
+        && cases::same(traj_x, want, TRAJ_X)
+        && cases::same(map_y, want, MAP_Y)
+        && cases::same(map_x, want, MAP_X)
+}
+
+/// The same of the parts of a store, as `judge_call` and `judge_pass` have them.
+pub fn same_parts(
     field: &Field<'_>,
     trajectories: &Pairs<'_, i32>,
     maps: &Pairs<'_, i8>,
     want: &[i64],
 ) -> bool
-    ensures { WhenTrue result (StoreListed (store_of field.now trajectories.now maps.now) want.now) }
+    ensures listed { WhenTrue result (StoreListed (store_of field.now trajectories.now maps.now) want.now) }
 {
-    cases::same(field.y, want, FIELD_Y)
-        && cases::same(field.x, want, FIELD_X)
-        && cases::same(field.reference, want, FIELD_REF)
-        && cases::same(trajectories.y, want, TRAJ_Y)
-        && cases::same(trajectories.x, want, TRAJ_X)
-        && cases::same(maps.y, want, MAP_Y)
-        && cases::same(maps.x, want, MAP_X)
+    // A function of its own (tried in `judge_call`: no proof where lists are lent side by side out
+    // of a `&mut Field`).
+    same_store(
+        field.y,
+        field.x,
+        field.reference,
+        trajectories.y,
+        trajectories.x,
+        maps.y,
+        maps.x,
+        want,
+    )
 }
 
 /// Judges a load that is lent the parts of a store. The setup has 171 numbers and the call 8, the
@@ -128,5 +156,5 @@ pub fn judge_call(
     if i64::from(number) != stated {
         return Verdict::Differs;
     }
-    Some(same_store(field, trajectories, maps, want)).into()
+    Some(same_parts(field, trajectories, maps, want)).into()
 }

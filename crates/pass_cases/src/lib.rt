@@ -212,7 +212,7 @@ fn agrees(
     }
     let asked = load_cases::asked_at(n, 7);
     run_on_tile(field, trajectories, maps, &frame, asked, &pass)?;
-    Some(load_cases::same_store(field, trajectories, maps, want))
+    Some(load_cases::same_parts(field, trajectories, maps, want))
 }
 
 /// Judges one pass of a load that is lent the parts of a store.

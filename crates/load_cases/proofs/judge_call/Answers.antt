@@ -25,8 +25,8 @@ returns c =
     let g : SFits w64 c.from.result = search rules in
     let k = c.run_call-number.ensures in
     let s = was (goal.at.returns c).Start in
-    agreed c.into.result c.setup_of-frame.result c.args.setup.now n c.args.planes.now s c.args.want.now c.same_store.result
+    agreed c.into.result c.setup_of-frame.result c.args.setup.now n c.args.planes.now s c.args.want.now c.same_parts.result
     (passed c.is_record.result c.if-not-is_record.false-raw c.is_record.ensures)
     (left_by c.setup_of-frame.result c.args.planes.now s c.asked_at.ensures refl (k.answer, k.stored))
-    c.same_store.ensures
-    (judged (Some c.same_store.result) c.into.result c.into.ensures (λ q. (sym (same_bits g f c.if-from-stated.false) ∙ c.from.ensures, same_Some _ _ q)))
+    c.same_parts.ensures.listed
+    (judged (Some c.same_parts.result) c.into.result c.into.ensures (λ q. (sym (same_bits g f c.if-from-stated.false) ∙ c.from.ensures, same_Some _ _ q)))

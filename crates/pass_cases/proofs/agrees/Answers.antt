@@ -13,4 +13,4 @@ was s = let a = s.args in store_of a.field.now a.trajectories.now a.maps.now
 pub returns : goal.returns
 returns c = λ e.
     agreed c.setup_of-frame.result c.args.setup.now c.args.n.now (was (goal.at.returns c).Start) c.args.want.now c.asked_at-asked.ensures c.if-not-is_record.ensures
-    c.in_ok-pass.ensures c.in_ok-run_on_tile.ensures (rw (same_Some _ _ e) at c.same_store.ensures)
+    c.in_ok-pass.ensures c.in_ok-run_on_tile.ensures (rw (same_Some _ _ e) at c.same_parts.ensures.listed)
