@@ -109,6 +109,7 @@ impl<'f, 'c> View<'f, 'c> {
         // 256 lines of at most 57 bytes; a row of 2,048 pixels has 6,144.
         let mut out = ArrayVec::<u8, 14592>::new();
         let parts = parts_of(self.wanted, self.setup);
+        // By number: a part is what its number says.
         for k in 0..parts {
             self.write_part(to, k, &mut out)?;
         }
