@@ -36,32 +36,9 @@ pub fn load(crates: &Path, own: Own) -> Result<Machine, String> {
     let library = scope::Library::new(&texts, own == Own::Native)?;
     println!("{} definitions read", library.count());
     for text in library.unread() {
-        if is_run(&text) {
-            println!("not read: {text}");
-        }
+        println!("not read: {text}");
     }
     Ok(machine(library))
-}
-
-/// The programs' own definitions speak of texts and of lists by the libraries' words, and a module `Code` of what
-/// internal contracts alone cite. No comparison runs either: what the programs write is compared itself.
-const PROGRAMS: [&str; 7] = [
-    "text",
-    "unpack",
-    "lines",
-    "replay",
-    "replay_loads",
-    "show",
-    "show_field",
-];
-
-fn is_run(definition: &str) -> bool {
-    let mut parts = definition.split('.');
-    let (name, module) = (
-        parts.next().unwrap_or_default(),
-        parts.next().unwrap_or_default(),
-    );
-    !PROGRAMS.contains(&name) && module != "Code"
 }
 
 fn machine(mut library: scope::Library) -> Machine {
@@ -142,6 +119,46 @@ ascii word = from word (len word) 0
         assert_eq!(
             (0..11).map(at).collect::<Vec<_>>(),
             [97, 32, 40, 98, 41, 10, 32, 45, 45, 32, 99]
+        );
+    }
+
+    #[test]
+    fn definitions_of_the_libraries_are_run() {
+        let uses = "use Rattle.std.specs.Prelude.{is_some, is_err, codes, decimal, flat_map, Some, None, Ok, Err}
+use Rattle.std.specs.Fmt.{signed_decimal}
+use Rattle.std.specs.Bool.{then_some}
+use Rattle.std.specs.Char.{is_ascii_digit, is_ascii_lowercase}
+use Rattle.std.specs.List.{fold}
+use Rattle.std.specs.Str.{bytes_eq}
+";
+        let says = |term: &str| it(&format!("{uses}it : ℕ\nit = {term}"));
+        let holds = |term: &str| says(&format!("cond ({term}) 1 0")) == 1;
+        assert!(holds("bytes_eq (decimal 1905) (codes \"1905\")"));
+        assert!(holds("bytes_eq (decimal 0) (codes \"0\")"));
+        assert!(holds(
+            "bytes_eq (signed_decimal (negsuc 31)) (codes \"-32\")"
+        ));
+        assert!(!holds("bytes_eq (codes \"ab\") (codes \"a\")"));
+        assert!(holds("is_some (Some 3) && not (is_some None)"));
+        assert!(holds("is_err (Err 3) && not (is_err (Ok 3))"));
+        assert!(holds(
+            "is_some (then_some true 3) && not (is_some (then_some false 3))"
+        ));
+        assert!(holds("is_ascii_digit 57 && not (is_ascii_digit 58)"));
+        assert!(holds(
+            "is_ascii_lowercase 97 && not (is_ascii_lowercase 96)"
+        ));
+        assert_eq!(
+            says("fold (λ a x. a + x) 1 (flat_map (λ x. x ∷ x ∷ []) (2 ∷ 3 ∷ []))"),
+            11
+        );
+    }
+
+    #[test]
+    fn an_implicit_argument_is_no_fault_where_it_is_not_evaluated() {
+        assert_eq!(
+            it("f : {W : ℕ} → ℕ → ℕ\nf {W} n = (n, W).0\n\nit : ℕ\nit = f 4"),
+            4
         );
     }
 

@@ -238,7 +238,7 @@ impl Maker {
             Ir::Text(codes) => Expr::Const(Value::ints(codes.clone())),
             Ir::Bool(b) => Expr::Const(Value::Bool(*b)),
             Ir::Nil => Expr::Const(Value::list(Vec::new())),
-            Ir::Bad(text) => Expr::Bad(text.clone()),
+            Ir::Bad(text) | Ir::LeftOut(text) => Expr::Bad(text.clone()),
             Ir::Global(id) => self.call(*id, &[], frame),
             Ir::Con(con, parts) => {
                 if let [test, then, other] = &parts[..]

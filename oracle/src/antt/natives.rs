@@ -114,6 +114,7 @@ pub const LIBRARY: &[(&str, Native, usize)] = &[
     ("Rattle.std.specs.Prelude.slice_set", Native::Set, 3),
     ("Rattle.std.specs.Prelude.slice_index", Native::CharAt, 2),
     ("Rattle.std.specs.Prelude.if◌then◌else◌", Native::Cond, 3),
+    ("Rattle.std.specs.Prelude.nat_eq", Native::Eqb, 2),
     ("Prim.Native.Char.code", Native::Pos, 1),
     ("Prim.Native.String.len", Native::Length, 1),
     ("Prim.Native.String.char_at", Native::CharAt, 2),
@@ -126,6 +127,87 @@ pub const OWN: &[(&str, Native, usize)] = &[
     ("loops.Over.span_by", Native::SpanBy, 5),
     ("store.Store.tab", Native::Tab, 2),
     ("store.Program.run", Native::Run, 3),
+];
+
+/// Definitions of the libraries that are run from their clauses, as they stand there: a module's name, and what the crates cite of it.
+/// A text is the list of its characters' numbers here, so `codes` gives it as it is.
+pub const CLAUSES: &[(&str, &str)] = &[
+    (
+        "Rattle.std.specs.Prelude",
+        "use Rattle.std.specs.Prelude.{true, false, Some, None, Ok, Err, [], ◌∷◌, ◌++◌, zero, suc, ◌+◌, ◌/◌, ◌%◌, ◌==◌, if◌then◌else◌, nat_lt}
+abbrev pub is_some : {T : Type 0} → Option T → Bool
+is_some None = false
+is_some (Some x) = true
+
+abbrev pub is_err : {T E : Type 0} → Result T E → Bool
+is_err (Ok x) = false
+is_err (Err e) = true
+
+abbrev pub codes : String → List ℕ
+codes text = text
+
+abbrev pub flat_map : {X A : Type 0} → (X → List A) → List X → List A
+flat_map f [] = []
+flat_map f (x ∷ xs) = f x ++ flat_map f xs
+
+digit_glyph : ℕ → ℕ
+digit_glyph d = if nat_lt d 10 then 48 + d else 87 + d
+
+digits_onto : ℕ → ℕ → List ℕ → List ℕ
+digits_onto zero n acc = acc
+digits_onto (suc k) n acc = if n / 10 == 0 then digit_glyph (n % 10) ∷ acc else digits_onto k (n / 10) (digit_glyph (n % 10) ∷ acc)
+
+abbrev pub decimal : ℕ → List ℕ
+decimal n = digits_onto 64 n []
+",
+    ),
+    (
+        "Rattle.std.specs.Fmt",
+        "use Rattle.std.specs.Prelude.{◌∷◌, pos, negsuc, suc, decimal}
+abbrev pub signed_decimal : ℤ → List ℕ
+signed_decimal (pos n) = decimal n
+signed_decimal (negsuc n) = 45 ∷ decimal (suc n)
+",
+    ),
+    (
+        "Rattle.std.specs.Bool",
+        "use Rattle.std.specs.Prelude.{true, false, Some, None}
+abbrev pub then_some : {T : Type 0} → Bool → T → Option T
+then_some true x = Some x
+then_some false x = None
+",
+    ),
+    (
+        "Rattle.std.specs.Char",
+        "use Rattle.std.specs.Prelude.{◌&&◌, nat_le}
+is_in_range : ℕ → ℕ → ℕ → Bool
+is_in_range lo hi c = nat_le lo c && nat_le c hi
+
+abbrev pub is_ascii_digit : ℕ → Bool
+is_ascii_digit c = is_in_range 48 57 c
+
+abbrev pub is_ascii_lowercase : ℕ → Bool
+is_ascii_lowercase c = is_in_range 97 122 c
+",
+    ),
+    (
+        "Rattle.std.specs.List",
+        "use Rattle.std.specs.Prelude.{[], ◌∷◌}
+abbrev pub fold : {A B : Type 0} → (B → A → B) → B → List A → B
+fold f a [] = a
+fold f a (x ∷ xs) = fold f (f a x) xs
+",
+    ),
+    (
+        "Rattle.std.specs.Str",
+        "use Rattle.std.specs.Prelude.{true, false, ◌&&◌, [], ◌∷◌, nat_eq}
+abbrev pub bytes_eq : List ℕ → List ℕ → Bool
+bytes_eq [] [] = true
+bytes_eq [] (y ∷ ys) = false
+bytes_eq (x ∷ xs) [] = false
+bytes_eq (x ∷ xs) (y ∷ ys) = nat_eq x y && bytes_eq xs ys
+",
+    ),
 ];
 
 /// Functions of one number whose answers are kept once they are computed, from their clauses.
@@ -164,6 +246,15 @@ pub fn text() -> String {
     text += "kept once computed from their clauses:\n";
     for name in KEPT {
         text += &format!("  {name}\n");
+    }
+    text += "run from their clauses, of the libraries:\n";
+    for (module, clauses) in CLAUSES {
+        for line in clauses.lines() {
+            if let Some((name, _)) = line.split_once(" : ") {
+                let name = name.trim_start_matches("abbrev pub ");
+                text += &format!("  {module}.{name}\n");
+            }
+        }
     }
     text += "carried out by the interpreter, of the libraries:\n";
     for (name, _, _) in LIBRARY {

@@ -161,6 +161,9 @@ fn constructors(chunk: &[Token]) -> Vec<String> {
 
 fn clause(chunk: &[Token], equals: usize, fixities: &Fixities) -> Read<Item> {
     let (name, patterns) = left_side(&chunk[..equals], fixities)?;
+    let left = chunk[..equals].windows(3);
+    let braced = left.filter(|part| part[0].text == "{" && part[2].text == "}");
+    let implicit = braced.map(|part| part[1].text.clone()).collect();
     let right = &chunk[equals + 1..];
     let helpers_at = outer(right, "where");
     let helpers = match helpers_at {
@@ -176,6 +179,7 @@ fn clause(chunk: &[Token], equals: usize, fixities: &Fixities) -> Read<Item> {
     let clause = Clause {
         line: chunk[0].line,
         patterns,
+        implicit,
         body,
         helpers,
     };

@@ -36,6 +36,8 @@ pub enum Ir {
     Record(ShapeId, Vec<Ir>),
     /// Not understood, or not a value: only a fault if it is evaluated.
     Bad(String),
+    /// An implicit argument, which is left out as types are: a fault if it is evaluated.
+    LeftOut(String),
 }
 
 #[derive(Clone, Debug)]
@@ -174,7 +176,8 @@ impl Library {
         };
         library.enter_natives();
         let mut files = Vec::new();
-        for (module, text) in texts {
+        let given = texts.iter().map(|(module, text)| (&module[..], &text[..]));
+        for (module, text) in natives::CLAUSES.iter().copied().chain(given) {
             let items = parse::file(text, &fixities).map_err(|e| format!("{module}: {e}"))?;
             files.push((module, items));
         }
@@ -341,6 +344,7 @@ impl Library {
                 prefix: Vec::new(),
                 locals: Vec::new(),
                 helpers: HashMap::new(),
+                implicit: clause.implicit.clone(),
             };
             inside.clause(&prefix, clause)
         });
@@ -371,6 +375,8 @@ struct Inside<'a> {
     prefix: Vec<(Parameter, VarId)>,
     locals: Vec<(String, VarId)>,
     helpers: HashMap<String, FnId>,
+    /// The clause's implicit arguments.
+    implicit: Vec<String>,
 }
 
 impl Inside<'_> {
@@ -495,6 +501,9 @@ impl Inside<'_> {
             Some(entity) => self.of_entity(entity),
             // the one value of the unit type
             None if name == "tt" => Ir::Record(self.tuple_shape(0), Vec::new()),
+            None if self.implicit.iter().any(|implicit| implicit == name) => {
+                Ir::LeftOut(format!("{}: {name} is implicit", self.parent))
+            }
             None => Ir::Bad(format!("{}: {name} is not in scope", self.parent)),
         }
     }

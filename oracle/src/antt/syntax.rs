@@ -37,6 +37,8 @@ pub enum Pattern {
 pub struct Clause {
     pub line: u32,
     pub patterns: Vec<Pattern>,
+    /// The names of those in braces.
+    pub implicit: Vec<String>,
     /// Or what could not be read in it.
     pub body: Result<Term, String>,
     pub helpers: Vec<Item>,
