@@ -9,6 +9,7 @@ ghost use Rattle.c_setup.specs.Setup.{header_of, frame_of, switches_of, given_by
 use frame::{Frame, Header, Sources, Tip};
 use levels::{OrderHint, Refusal};
 use picks::{Pocs, Saved};
+use std::array;
 
 /// A header as C hands it over: switches are bytes, on where not 0.
 #[repr(C)]
@@ -81,15 +82,7 @@ pub struct CFrame {
 fn switches(bytes: [u8; 7]) -> [bool; 7]
     ensures { result ≡ switches_of bytes }
 {
-    [
-        bytes[0] != 0,
-        bytes[1] != 0,
-        bytes[2] != 0,
-        bytes[3] != 0,
-        bytes[4] != 0,
-        bytes[5] != 0,
-        bytes[6] != 0,
-    ]
+    array::from_fn(|i| bytes[i] != 0)
 }
 
 /// The header that C hands over, its switches read.
