@@ -114,7 +114,7 @@ pub fn is_frame_file(b: &[u8]) -> bool
     requires { 103 ≤ length b.now }
     ensures { result ≡ is_frame_file b.now }
 {
-    (b[0] == b'R') & (b[1] == b'M') & (b[2] == b'V') & (b[3] == b'F') & (b[4] == 1)
+    b.starts_with(b"RMVF\x01".as_slice())
 }
 
 /// The end of tile column i, in cells.

@@ -1,8 +1,7 @@
 -- `framefile::is_frame_file` meets its contract. Assumes nothing.
-use Rattle.std.proofs.Common.{rules}
-use Rattle.framefile.specs.File.{is_frame_file}
+use Rattle.std.proofs.Common.{◌∙◌}
+use Rattle.framefile.proofs.Name.{named}
 use Rattle.framefile.proofs.is_frame_file.Goals as goal
 
 pub returns : goal.returns
-unfolding is_frame_file
-returns c = search rules
+returns c = rw (c.as_slice.ensures) at c.starts_with.ensures.value ∙ named c.args.b.now c.requires
