@@ -34,6 +34,7 @@ fn saved_at(b: &[u8], at: usize) -> Saved
     Saved { ref_poc, refcnt }
 }
 
+// The head's length is a clause, here and below, and the bytes no `&[u8; 103]`: a narrower type would ask more of callers, who have the whole file.
 fn all_saved(b: &[u8]) -> [Saved; 7]
     requires { 103 ≤ length b.now }
     ensures { result ≡ all_saved b.now }
@@ -153,6 +154,7 @@ fn present_before(present: [bool; 7], k: usize) -> usize
 }
 
 /// Where slot k's plane begins in a file with n tile columns; for k = 7, where the file ends.
+// No `Layout`: that has a stride, too, on which a place in the file does not depend.
 pub fn plane_at(present: [bool; 7], n: usize, wide: usize, high: usize, k: usize) -> usize
     requires columns { n ≤ 255 }
     requires wide { wide ≤ 256 }
@@ -226,6 +228,7 @@ fn put_present(b: &[u8], l: Layout, planes: &mut [i8], k: usize)
 }
 
 /// The planes that a file with n tile columns has; the others stay as they were.
+// Its parameters become a `Layout` here and not at its caller: a public one would state the same four facts beside its fields, for one call.
 pub fn put_planes(
     b: &[u8],
     present: [bool; 7],
