@@ -1,5 +1,5 @@
 -- Laws of the kind `frame`: the header and the record by their parts. Assumes nothing.
-use Rattle.std.proofs.Common.{Some, slice_get, false, sym, ap, ◌∙◌, ◌≡◌, Bool, List, ℕ, ◌+◌, ℤ, pos, nat_abs, set}
+use Rattle.std.proofs.Common.{Some, slice_get, false, sym, ap, ◌∙◌, ◌≡◌, Bool, List, ℕ, ◌+◌, ◌<◌, arith, ℤ, pos, nat_abs, set}
 use Rattle.std.proofs.lemmas.Option.{get_or_from_slice_get}
 use Rattle.levels.specs.declared.OrderHint.{OrderHint}
 use Rattle.picks.specs.declared.Saved.{Saved}
@@ -50,6 +50,11 @@ pub source_is : (x : Source) (k : ℕ) (o : List ℤ) {v0 v1 v2 v3 : ℤ} {p q r
     → s ≡ put_source x k o
 unfolding put_source
 source_is x k o e0 e1 e2 e3 a b c d = cc
+
+-- a number of 32 bits is no larger than the largest of a line
+pub word_is : (v : ℕ) → v < 4294967296 → pos v ≡ in_i64 v
+unfolding in_i64
+word_is v l = ap pos (omega arith)
 
 -- the same of the record's
 pub head_is : (f : Frame) (o : List ℤ) {v0 v1 v2 v3 v4 v5 v6 v7 v8 v9 v10 v11 : ℤ}

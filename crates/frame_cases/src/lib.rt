@@ -2,7 +2,7 @@
 // init_frame makes of it, fields and elements in the order of include/refmvs.h.
 #![tactic(auto)]
 
-ghost use Rattle.std.specs.Prelude.{◌≡◌, true, ℕ, ℤ, ◌+◌, ◌≤◌, length, Some, slice_get};
+ghost use Rattle.std.specs.Prelude.{◌≡◌, true, ℕ, ℤ, ◌+◌, ◌*◌, ◌≤◌, ◌<◌, length, Some, slice_get};
 ghost use Rattle.cases.specs.Verdicts.{WhenTrue, WhenAgrees};
 ghost use Rattle.cases.specs.Numbers.{Bytes};
 ghost use Rattle.frame.specs.Frame.{says_setup};
@@ -49,17 +49,13 @@ fn all_saved(n: &[i64]) -> [Saved; 7]
     requires { 83 ≤ length n.now }
     ensures { Bytes 12 76 n.now → result ≡ all_saved n.now }
 {
-    let none = Saved {
-        ref_poc: [OrderHint(0); 7],
-        refcnt: 0,
-    };
-    let mut out = [none; 7];
-    // A loop, since what saved_at ensures has a premise, which a closure's result does not bring along.
-    for i in 0..7 {
-        let s = saved_at(n, 20 + 8 * i);
-        out[i] = s;
-    }
-    out
+    array::from_fn(
+        |i|
+            requires long { 83 ≤ length n.now }
+            requires slot { i < 7 }
+            ensures { Bytes 12 76 n.entry.now → result ≡ saved_at n.entry.now (20 + 8 * i) }
+        { saved_at(n, 20 + 8 * i) },
+    )
 }
 
 /// Seven switches, from the number k on.
@@ -122,7 +118,8 @@ fn header_of(n: &[i64]) -> Header
     }
 }
 
-// A line has no number above the largest i64.
+// A line has no number above the largest i64. By hand: std has no conversion that stops at the
+// largest number, and `as` would wrap.
 fn of_u64(v: u64) -> i64
     ensures { result ≡ in_i64 v }
 {
@@ -166,8 +163,8 @@ fn put_sources(sources: Sources, out: &mut [i64; 171])
 fn put_head(f: Frame, out: &mut [i64; 171])
     ensures { out.new ≡ put_head f out.old }
 {
-    out[0] = of_u64(u64::from(f.width));
-    out[1] = of_u64(u64::from(f.height));
+    out[0] = i64::from(f.width);
+    out[1] = i64::from(f.height);
     // `as`: there is no `From` from usize to u64.
     out[2] = of_u64(f.n_refs as u64);
     out[3] = i64::from(f.sb128);
