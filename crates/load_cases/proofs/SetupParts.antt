@@ -1,5 +1,6 @@
 -- Laws of a setup: it and its parts, of the same by other names. Assumes nothing.
-use Rattle.std.proofs.Common.{◌⊎◌, ◌<◌, Some, slice_get, length, arith, pos, w8, w32, SFits, ◌≡◌, Bool, List, [], ◌∷◌, ℕ, ◌+◌, ℤ, nat_abs, get_or}
+use Rattle.std.proofs.Common.{refl, sym, ◌∙◌, zero, suc, ◌*◌, ◌⊎◌, ◌<◌, Some, slice_get, length, arith, pos, w8, w32, SFits, ◌≡◌, Bool, List, [], ◌∷◌, ℕ, ◌+◌, ℤ, nat_abs, get_or}
+use Rattle.std.proofs.lemmas.List.{ext_get_or}
 use Rattle.std.proofs.lemmas.Option.{slice_get-get_or}
 use Rattle.std.specs.Int.{FitsUnsignedBits}
 use Rattle.loops.proofs.Seven.{seven_is}
@@ -19,11 +20,23 @@ pub source_is : (n : List ℤ) (k : ℕ) {r d : ℕ} {t c : ℤ} {p q u v : List
 unfolding source_at
 source_is n k e1 e2 e3 e4 e5 e6 e7 e8 = cc
 
-pub sources_is : (n : List ℤ) {m s : ℕ} {p q u v : Source}
-    → m ≡ nat_abs (at n 40) → s ≡ nat_abs (at n 42) → p ≡ source_at n 43 → q ≡ source_at n 75 → u ≡ source_at n 107 → v ≡ source_at n 139
-    → ◌≡◌ {A = Sources} (record { mfmv = p ∷ q ∷ u ∷ v ∷ []; n_mfmvs = s; mfmv_mask = m }) (sources_at n)
+-- four entries that are f's
+four_at : {A : Type 0} (f : ℕ → A) (d : A) (i : ℕ) → i < 4 → get_or (f 0 ∷ f 1 ∷ f 2 ∷ f 3 ∷ []) i d ≡ f i
+four_at f d zero h = refl
+four_at f d (suc zero) h = refl
+four_at f d (suc (suc zero)) h = refl
+four_at f d (suc (suc (suc zero))) h = refl
+four_at f d (suc (suc (suc (suc i)))) h = absurd (omega arith)
+
+four_is : {A : Type 0} (f : ℕ → A) (d : A) (xs : List A) → length xs ≡ 4 → ((i : ℕ) → i < 4 → get_or xs i d ≡ f i) → xs ≡ f 0 ∷ f 1 ∷ f 2 ∷ f 3 ∷ []
+four_is f d xs e h = ext_get_or d xs (f 0 ∷ f 1 ∷ f 2 ∷ f 3 ∷ []) e (λ i l. let b : i < 4 = omega (arith, e) in h i b ∙ sym (four_at f d i b))
+
+pub sources_is : (n : List ℤ) {m s : ℕ} {xs : List Source}
+    → m ≡ nat_abs (at n 40) → s ≡ nat_abs (at n 42) → length xs ≡ 4 → ((i : ℕ) → i < 4 → get_or xs i (source_at n 43) ≡ source_at n (43 + 32 * i))
+    → ◌≡◌ {A = Sources} (record { mfmv = xs; n_mfmvs = s; mfmv_mask = m }) (sources_at n)
 unfolding sources_at
-sources_is n e1 e2 e3 e4 e5 e6 = cc
+sources_is n {m} {s} {xs} e1 e2 e3 e4 =
+    let q : xs ≡ source_at n 43 ∷ source_at n 75 ∷ source_at n 107 ∷ source_at n 139 ∷ [] = four_is (λ i. source_at n (43 + 32 * i)) (source_at n 43) xs e3 e4 in cc
 
 pub tip_is : (n : List ℤ) {d a b : ℤ} → d ≡ at n 8 → a ≡ at n 9 → b ≡ at n 10 → ◌≡◌ {A = Tip} (record { delta = d; sf0 = a; sf1 = b }) (tip_at n)
 unfolding tip_at

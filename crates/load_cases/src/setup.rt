@@ -1,10 +1,11 @@
 // The setup of a line's numbers. One that does not fit its field is read as 0: frame_cases::is_record says whether one was.
-ghost use Rattle.std.specs.Prelude.{◌≡◌, ◌+◌, ◌≤◌, length};
+ghost use Rattle.std.specs.Prelude.{◌≡◌, ◌+◌, ◌*◌, ◌≤◌, ◌<◌, length};
 ghost use Rattle.load_cases.specs.Setup.{source_at, sources_at, tip_at, setup_at, SourceNumbers, SourcesNumbers, TipNumbers, SetupNumbers};
 
 use entry::Source;
 use frame::{Frame, Sources, Tip};
 use levels::Slot;
+use std::array;
 
 fn source_at(n: &[i64], k: usize) -> Source
     requires { k + 32 ≤ length n.now }
@@ -30,18 +31,23 @@ fn source_at(n: &[i64], k: usize) -> Source
     }
 }
 
+// The length is a clause here and in `tip_of`, and no array type: `setup_of` hands on the list that
+// it is lent, which may be longer.
 fn sources_of(n: &[i64]) -> Sources
     requires { 171 ≤ length n.now }
     ensures { SourcesNumbers n.now → result ≡ sources_at n.now }
 {
     let mfmv_mask = cases::number(n[40]);
     let n_mfmvs = cases::number(n[42]);
-    let a = source_at(n, 43);
-    let b = source_at(n, 75);
-    let c = source_at(n, 107);
-    let d = source_at(n, 139);
+    let mfmv = array::from_fn(
+        |i|
+            requires long { 171 ≤ length n.now }
+            requires place { i < 4 }
+            ensures { SourceNumbers n.entry.now (43 + 32 * i) → result ≡ source_at n.entry.now (43 + 32 * i) }
+        { source_at(n, 43 + 32 * i) },
+    );
     Sources {
-        mfmv: [a, b, c, d],
+        mfmv,
         n_mfmvs,
         mfmv_mask,
     }
