@@ -2,7 +2,7 @@
 // against the lists that are wanted.
 #![tactic(auto)]
 
-ghost use Rattle.std.specs.Prelude.{◌≡◌, true, false, ◌*◌, ◌≤◌, ◌<◌, nat_abs, length, [], Some, IfSome, IfOk, OnOk};
+ghost use Rattle.std.specs.Prelude.{◌≡◌, true, false, ◌*◌, ◌≤◌, ◌<◌, length, [], Some, IfSome, IfOk, OnOk};
 ghost use Rattle.store.specs.Program.{run};
 ghost use Rattle.tile.specs.Lent.{IsTrajHeld, IsMapHeld};
 ghost use Rattle.tile.specs.Owner.{owns};
@@ -10,10 +10,9 @@ ghost use Rattle.tile.specs.Tiles.{geometry};
 ghost use Rattle.field.specs.Lent.{IsHeld, store_of};
 ghost use Rattle.load.specs.Asked.{call_of};
 ghost use Rattle.load.specs.Load.{tile_of};
-ghost use Rattle.cases.specs.Numbers.{at};
 ghost use Rattle.cases.specs.Verdicts.{WhenTrue, WhenAgrees};
 ghost use Rattle.pass_cases.specs.PassCase.{PassNumbers, emptying, Accepted, PassAgrees};
-ghost use Rattle.pass_cases.specs.Code.{code, Asks, Applies, program_of, Ran};
+ghost use Rattle.pass_cases.specs.Code.{Asks, Applies, program_of, Ran};
 
 mod pass;
 
@@ -28,22 +27,6 @@ use load_cases::setup;
 use pass::{Kind, Pass};
 use store::Pairs;
 use tile::Tile;
-
-// The kind of a number on a line.
-fn kind_of(number: i64) -> Option<Kind>
-    ensures { IfSome result (λ k. code k ≡ nat_abs number) }
-{
-    match number {
-        0 => Some(Kind::Emptying),
-        1 => Some(Kind::TipProjection),
-        2 => Some(Kind::FillHoles),
-        3 => Some(Kind::Smoothen),
-        4 => Some(Kind::FillGapProj),
-        5 => Some(Kind::FillGapTraj),
-        6 => Some(Kind::CheckTrajIntersect),
-        _ => None,
-    }
-}
 
 // Kind and slots, the block, its vector, the tile.
 fn numbers_fit(n: &[i64]) -> bool
@@ -64,7 +47,7 @@ fn pass_at(n: &[i64]) -> Option<Pass>
     if !numbers_fit(n) {
         return None;
     }
-    let kind = kind_of(n[0])?;
+    let kind = Kind::try_from(n[0]).ok()?;
     let a = cases::to_usize(n[1]);
     let b = cases::to_usize(n[2]);
     let y = cases::to_usize(n[3]);

@@ -1,5 +1,7 @@
 -- `pass_cases::pass_at` meets its contract. Assumes nothing.
-use Rattle.std.proofs.Common.{arith, rules, nat_abs, ◌≡◌, refl, sym, ◌∙◌, subst, w32, w64, SFits, to_z, of_z}
+use Rattle.std.proofs.Common.{Ok, arith, rules, nat_abs, ◌≡◌, refl, sym, ◌∙◌, subst, w32, w64, SFits, to_z, of_z}
+use Rattle.std.proofs.lemmas.Grind.{common_steps}
+use Rattle.std.proofs.lemmas.Result.{IfOk-at_ok}
 use borrow.Author.Rules.{sfits_of}
 use mir.ValLaws.{to_z-of_z}
 use Rattle.intops.specs.Bounds.{Within}
@@ -58,4 +60,5 @@ pub returns : goal.returns
 returns c =
     let d = (goal.at.returns c).After-number-mv_x in
     let f : SFits w64 (at c.args.n.now 0) = search rules in
-    record { numbers = fit d; kind = simp back at c.in_ok-kind.ensures; a = is_a d; b = is_b d; y = is_y d; x = is_x d; mv = rw (is_mv_y d, is_mv_x d) refl }
+    let r : c.try_from.result ≡ Ok c.in_ok-kind.kind = grind (arith, common_steps, c.ok.ensures.value, c.in_ok-kind.ensures.value) in
+    record { numbers = fit d; kind = IfOk-at_ok _ r (simp back at c.try_from.ensures); a = is_a d; b = is_b d; y = is_y d; x = is_x d; mv = rw (is_mv_y d, is_mv_x d) refl }
