@@ -28,7 +28,7 @@ fn says(answer: Result<Mv, Refusal>, refusal: i32, stated: Mv) -> bool
     ensures { result ≡ true → Stated (says answer) refusal stated }
 {
     let (number, v) = said(answer, Mv { y: 0, x: 0 });
-    i32::from(number) == refusal && v.y == stated.y && v.x == stated.x
+    i32::from(number) == refusal && v == stated
 }
 
 fn project(n: &[i64]) -> Option<bool>
@@ -76,7 +76,11 @@ fn quantize(n: &[i64]) -> Option<bool>
     let stated_y = i8::try_from(stated_y).ok()?;
     let stated_x = i8::try_from(stated_x).ok()?;
     let q = mv::quantize_mv(Mv { y, x });
-    Some(q.y == stated_y && q.x == stated_x)
+    let stated = QMv {
+        y: stated_y,
+        x: stated_x,
+    };
+    Some(q == stated)
 }
 
 /// Judges a line of quantize_mv: a vector and the packed one.
