@@ -16,6 +16,8 @@ use picks::{Pocs, Saved};
 use std::array;
 
 // Does each number of the header fit its field? A switch fits as it is.
+// The length is a clause, here and in the three functions below that read a header, and no array
+// type: the header is the front of a line of 255 numbers, and the definitions read the whole line.
 fn fits_header(n: &[i64]) -> bool
     requires { 83 ≤ length n.now }
     ensures { WhenTrue result (HeaderFits n.now) }
@@ -205,6 +207,8 @@ pub fn is_record(f: Frame, n: &[i64], from: usize) -> bool
 }
 
 // The refusal's number, 0 for none, and the record, zeros where the header is refused.
+// It and `said` of leaf_cases are two functions: this one ensures the definition's record of both,
+// which a common one, that ensures number and value apart, would leave to be put together here.
 fn numbered(setup: Result<Frame, Refusal>) -> (u8, Frame)
     ensures { says_setup setup ≡ record { refusal = result.0; frame = result.1 } }
 {

@@ -78,6 +78,8 @@ fn run_call(
     ensures stored { store_of field.new trajectories.new maps.new
         ≡ called answer load (call_of setup.now asked planes.now) (store_of field.old trajectories.old maps.old) }
 {
+    // Matched here, and not by a function shared with `said` of leaf_cases: a load has no value beside
+    // the number.
     match tmvs::load_tmvs(field, trajectories, maps, planes, setup, asked) {
         Ok(()) => 0,
         Err(refusal) => refusal.number(),
