@@ -1,11 +1,11 @@
 -- Laws of a kept pass: what its tests say of the tile, the pass of each kind, its verdict. Assumes nothing.
-use Rattle.std.proofs.Common.{◌≡◌, refl, sym, ap, ◌∙◌, subst, Bool, true, false, not, cond, List, [], ℕ, ◌*◌, ℤ, pos, negsuc, nat_abs, length, replicate}
+use Rattle.std.proofs.Common.{◌≡◌, refl, sym, ap, ◌∙◌, subst, Bool, false, not, cond, List, [], ℕ, ◌*◌, ℤ, pos, negsuc, replicate}
 use Rattle.std.proofs.Math.ListN.{length-replicate}
 use Rattle.intops.specs.Bounds.{Within}
 use Rattle.intops.proofs.Signed.{signed, ud, within_of}
 use Rattle.frame.specs.declared.Frame.{Frame}
-use Rattle.store.specs.Store.{Store, vec}
-use Rattle.store.specs.Program.{Prog, run, when, each}
+use Rattle.store.specs.Store.{Store}
+use Rattle.store.specs.Program.{Prog, run, when}
 use Rattle.tile.specs.Geometry.{Geometry}
 use Rattle.tile.specs.Owner.{owns}
 use Rattle.tile.specs.Sound.{FieldHeld, TrajHeld, MapHeld}
@@ -17,7 +17,7 @@ use Rattle.load.specs.Load.{high_of, stride_of, tile_of}
 use Rattle.load.specs.Calls.{tile_fits}
 use Rattle.load.proofs.Accepted.{in_range, columns}
 use Rattle.load.proofs.Held.{long, field_held, traj_held, map_held}
-use Rattle.cases.specs.Numbers.{at, Inside, Is32}
+use Rattle.cases.specs.Numbers.{Inside, Is32}
 use Rattle.load_cases.specs.LoadCase.{asked_at, call_at, StoreListed}
 use Rattle.frame_cases.specs.FrameCase.{record_of, Stated}
 use Rattle.pass_cases.specs.declared.pass.Kind.{Kind}

@@ -1,5 +1,4 @@
 -- `pass_cases::run_pass` meets its contract. Assumes nothing.
-use Rattle.std.proofs.Common.{w8, SFits}
 use Rattle.intops.proofs.Signed.{back}
 use Rattle.store.specs.Store.{Store}
 use Rattle.field.specs.Lent.{store_of}
