@@ -33,6 +33,7 @@ use std::io::Write;
 // A reader of cases.
 type Reader = lines::Reader<16, 1024>;
 
+// Not the `End` of `replay_loads`: there a list may have no room, too, and what cannot be taken is told in other words.
 /// How a line has ended the run.
 #[derive(Clone, Copy, Debug, PartialEq, Eq)]
 pub enum End {
@@ -51,7 +52,7 @@ struct Replay {
     tallies: Tallies,
 }
 
-// How a verdict ends the run, if it does.
+// How a verdict ends the run, if it does. Not one with `judged` of `replay_loads`, which takes a call off its book, too.
 fn end_of(verdict: Verdict) -> Option<End>
     ensures { result ≡ end_of verdict }
 {
@@ -74,6 +75,7 @@ fn take_case(kind: Kind, numbers: &[i64], tallies: &mut Tallies) -> Option<End>
     ended
 }
 
+// Not one with that of `replay_loads`: a word is a kind of case here, and there a step on a book and its lists.
 fn take_line(line: &Reader, tallies: &mut Tallies) -> Option<End>
     ensures { Taken (seen line.now) tallies.old tallies.new result }
 {
