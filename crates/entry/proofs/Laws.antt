@@ -1,5 +1,7 @@
 -- The laws of the search for a hint, and of the factors. Assumes nothing.
-use Rattle.std.proofs.Common.{min, ◌≡◌, refl, Bool, true, false, List, Some, None, ℕ, suc, ◌+◌, ◌-◌, ◌<◌, ◌≤◌, arith, mul-le-mul, div-le_self, ℤ, pos, negsuc, nat_abs, get_or, eq-eqb, ne_eqb, Option, IfSome, zero, cond, eqb}
+use Rattle.std.proofs.lemmas.List.{drop_more}
+use Rattle.std.specs.List.{position_or_len}
+use Rattle.std.proofs.Common.{min, not, lt-ltb, le-ltb, ltb-true, ltb-false, length, take, drop, ltb, ◌≡◌, refl, Bool, true, false, List, Some, None, ℕ, suc, ◌+◌, ◌-◌, ◌<◌, ◌≤◌, arith, mul-le-mul, div-le_self, ℤ, pos, negsuc, nat_abs, get_or, eq-eqb, ne_eqb, Option, IfSome, zero, cond, eqb}
 use lib.Signed.{lt_z}
 use Rattle.intops.specs.Choice.{pick_z}
 use Rattle.intops.proofs.Signed.{signed, ud}
@@ -9,22 +11,26 @@ use Rattle.mv.specs.Projection.{reciprocal}
 use Rattle.picks.specs.Hints.{no_hint}
 use Rattle.entry.specs.Entry.{found, size, near_z, diff_of}
 
-module _ (hs : List OrderHint) (x : OrderHint) (n l : ℕ) where
-  pub found_here : l < n → (get_or hs l no_hint).0 ≡ x.0 → found hs x (n - l) l ≡ Some l
-  unfolding found
-  found_here h e =
-      let k : n - l ≡ suc (n - (l + 1)) = omega arith in
-      rw k (simp (eq-eqb _ _ e))
+-- has a slot the hint x?
+abbrev pub has_hint : OrderHint → OrderHint → Bool
+has_hint x h = eqb h.0 x.0
 
-  pub found_next : l < n → ((get_or hs l no_hint).0 ≡ x.0 → ⊥) → found hs x (n - l) l ≡ found hs x (n - (l + 1)) (l + 1)
-  unfolding found
-  found_next h e =
-      let k : n - l ≡ suc (n - (l + 1)) = omega arith in
-      rw k (simp (ne_eqb _ _ e))
+suc_less : (q m : ℕ) (b : Bool) → ltb q m ≡ b → ltb (1 + q) (suc m) ≡ b
+suc_less q m true e = lt-ltb _ _ (omega (arith, ltb-true q m e))
+suc_less q m false e = le-ltb _ _ (omega (arith, ltb-false q m e))
 
-  pub found_end : n ≤ l → found hs x (n - l) l ≡ None
-  unfolding found
-  found_end h = let k : n - l ≡ 0 = omega arith in rw k
+one_go : (t : Bool) (q m l : ℕ) → cond t (Some l) (cond (ltb q m) (Some (l + 1 + q)) None) ≡ cond (ltb (cond (not t) (1 + q) 0) (suc m)) (Some (l + cond (not t) (1 + q) 0)) None
+one_go true q m l = let e : l + 0 ≡ l = omega arith in rw (lt-ltb 0 (suc m) (omega arith), e)
+one_go false q m l = let e : l + 1 + q ≡ l + (1 + q) = omega arith in rw (suc_less q m (ltb q m) refl, e)
+
+-- the first of a list's hints that is x, counted from l on
+pub found_first : (hs : List OrderHint) (x : OrderHint) (k l : ℕ) → l + k ≤ length hs
+    → found hs x k l ≡ cond (ltb (position_or_len (has_hint x) (take k (drop l hs))) k) (Some (l + position_or_len (has_hint x) (take k (drop l hs)))) None
+unfolding found
+found_first hs x zero l h = refl
+found_first hs x (suc k) l h =
+    let i : l < length hs = omega arith in
+    rw (drop_more hs l no_hint i) (rw (found_first hs x k (l + 1) (omega arith)) (one_go (eqb (get_or hs l no_hint).0 x.0) _ k l))
 
 low_go : (t : Bool) (l n : ℕ) (o : Option ℕ) → IfSome o (λ k. k < l + 1 + n) → IfSome (cond t (Some l) o) (λ k. k < l + suc n)
 low_go true l n o h = omega arith

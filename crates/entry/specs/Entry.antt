@@ -1,6 +1,6 @@
 -- One source of the setup (01 "Setup record"; the last loop of init_frame). Assumes nothing.
 use Rattle.env.specs.Hints.{hint_diff}
-use Rattle.std.specs.Prelude.{ℕ, zero, suc, ◌+◌, ◌*◌, min, Bool, cond, List, Option, Some, None, ltb, eqb, ℤ, pos, negsuc, neg_ℤ, nat_abs, ◌-ℤ◌, get_or}
+use Rattle.std.specs.Prelude.{ℕ, zero, suc, ◌+◌, ◌-◌, ◌*◌, min, Bool, cond, List, Option, Some, None, ltb, eqb, ℤ, pos, negsuc, neg_ℤ, nat_abs, ◌-ℤ◌, get_or}
 use Rattle.std.specs.Bool.{beq}
 use Rattle.std.specs.Int.Signed.{lt_z}
 use Rattle.loops.specs.Seven.{seven}
@@ -59,10 +59,10 @@ ref_diff h i m = diff_of h.nbits (hint_of h i) (saved_of h i).ref_poc m
 abbrev pub cur : Pocs → MfmvRef → ℤ
 cur h p = hint_diff h.nbits (hint_of h p.reference.0) h.poc
 
--- a target as C's record has it: the slot's number; -1 for any, and for a number that a signed byte does not hold
+-- a target as C's record has it: the slot's number in a signed byte, from 128 on less 256; -1 for any
 abbrev pub target_byte : Option Slot → ℤ
 target_byte None = negsuc 0
-target_byte (Some t) = pick_z (ltb t.0 128) (pos t.0) (negsuc 0)
+target_byte (Some t) = pick_z (ltb t.0 128) (pos t.0) (negsuc (255 - t.0))
 
 -- the source p with ref2cur c and no entries
 abbrev pub blank_of : MfmvRef → ℤ → Source

@@ -8,20 +8,14 @@ use levels::{OrderHint, Slot};
 use picks::{Hints, MfmvRef, Saved};
 use std::array;
 
-/// The first of the first n slots with the hint x. From the back, so that no branch depends on where it is: `position` would leave at the first.
-#[tactic(auto, using(crate::proofs::Laws::found_here, crate::proofs::Laws::found_next, crate::proofs::Laws::found_end))]
+/// The first of the first n slots with the hint x.
+// The seven and how many count, and no slice of those (tried): of a list in a lent struct, as `Pocs` is, the check knows no length.
 pub fn find_hint(hints: &[OrderHint; 7], x: OrderHint, n: usize) -> Option<usize>
     requires { n ≤ 7 }
     ensures value { result ≡ found hints.now x n 0 }
     ensures below { IfSome result (λ k. k < n) }
 {
-    let mut first = None;
-    for l in (0..n).rev() {
-        if hints[l] == x {
-            first = Some(l);
-        }
-    }
-    first
+    hints[..n].iter().position(|hint| *hint == x)
 }
 
 // The same among all seven, -1 if there is none, as C's record has it.
@@ -29,11 +23,8 @@ pub fn find_hint(hints: &[OrderHint; 7], x: OrderHint, n: usize) -> Option<usize
 fn slot_of(hints: &[OrderHint; 7], x: OrderHint) -> i8
     ensures { result ≡ found_slot hints.now x }
 {
-    match find_hint(hints, x, 7) {
-        // `as`, as no From goes from usize to i8: k is below 7.
-        Some(k) => k as i8,
-        None => -1,
-    }
+    // `as`, as no From goes from usize to i8: k is below 7.
+    find_hint(hints, x, 7).map_or(-1, |k| k as i8)
 }
 
 /// a / b as a multiple of 2^-14, both kept within 31: of the table of reciprocals the part that get_mv_projection takes.
@@ -106,14 +97,11 @@ pub struct Source {
     pub ref2sf1: [i32; 7],
 }
 
-// A target as C's record has it: the slot's number; -1 for any, and for a number that a signed byte does not hold.
+// A target as C's record has it: the slot's number in a signed byte, -1 for any.
 fn target_byte(tgt: Option<Slot>) -> i8
     ensures { result ≡ target_byte tgt }
 {
-    match tgt {
-        Some(t) => i8::try_from(t.0).unwrap_or(-1),
-        None => -1,
-    }
+    tgt.map_or(-1, |t| t.0.cast_signed())
 }
 
 /// The source p with no entries, at a difference from the frame.

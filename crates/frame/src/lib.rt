@@ -1,7 +1,7 @@
 // The setup of a frame: init_frame.
 #![tactic(auto)]
 
-ghost use Rattle.std.specs.Prelude.{◌≡◌, ◌≤◌, ◌<◌, ◌||◌};
+ghost use Rattle.std.specs.Prelude.{◌≡◌, ◌≤◌, ◌<◌, ◌||◌, length};
 ghost use Rattle.picks.specs.Picks.{Slots};
 ghost use Rattle.refs.specs.Refs.{signs, diffs};
 ghost use Rattle.frame.specs.Frame.{leading, started, tip_pick, tip_add, with_tip, picked, Fine, source_at, filled, slot_of, sources_of, tip_diff, in_byte, tip_of, looks_at_tip, not_in_use, bad_tip, bad_size, bad_step, bad_superblock, refused_if, frame_of, zero_frame, no_source, no_sources, used, mask_of, says_setup, setup_of};
@@ -28,6 +28,15 @@ pub struct Tip {
     pub delta: i8,
     pub sf0: i32,
     pub sf1: i32,
+}
+
+impl Tip {
+    /// That of a frame with TIP mode 0: zeros.
+    pub const NONE: Tip = Tip {
+        delta: 0,
+        sf0: 0,
+        sf1: 0,
+    };
 }
 
 /// The values of the sequence's and the frame's header that a setup is made of. Any numbers.
@@ -75,19 +84,44 @@ pub struct Frame {
     pub sources: Sources,
 }
 
+// The TIP pair of the header.
+#[derive(Clone, Copy)]
+struct TipPair {
+    first: Slot,
+    second: Slot,
+    ghost first_low: { first.0 < 7 },
+    ghost second_low: { second.0 < 7 },
+}
+
+// The order hints of an accepted header, with what is found of each slot in use: its sign, and its clipped difference.
+#[derive(Clone, Copy)]
+struct Compared {
+    hints: FrameHints,
+    sign: [bool; 7],
+    diff: [i8; 7],
+    ghost signs: { sign ≡ signs hints.hints.pocs },
+    ghost diffs: { diff ≡ diffs hints.hints.pocs },
+}
+
+// A source that is not there, and no pick either.
+const NO_PICK: MfmvRef = MfmvRef {
+    reference: Slot(0),
+    tgt: Some(Slot(0)),
+    dir: 0,
+};
+
 // How many of the sorted slots lead with their sign set.
-fn first_later(sign: &[bool; 7], order: &[Slot; 7], n: usize) -> usize
-    requires count { n ≤ 7 }
-    requires slots { Slots order.now }
-    ensures value { result ≡ leading sign.now order.now n 0 }
-    ensures within { result ≤ n }
+fn first_later(sign: &[bool; 7], order: &[Slot]) -> usize
+    requires { Slots order.now }
+    ensures value { result ≡ leading sign.now order.now (length order.now) 0 }
+    ensures within { result ≤ length order.now }
 {
-    let later = order[..n].iter().position(
+    let later = order.iter().position(
         |s|
             requires { s.now.0 < 7 }
         { !sign[s.index()] },
     );
-    later.unwrap_or(n)
+    later.unwrap_or(order.len())
 }
 
 // No source yet, and the slots with no plane are taken.
@@ -96,11 +130,7 @@ fn start(present: &[bool; 7], n: usize) -> Picks
 {
     let taken: [bool; 14] = array::from_fn(|k| k / 2 < n && !present[k / 2]);
     Picks {
-        list: [MfmvRef {
-            reference: Slot(0),
-            tgt: Some(Slot(0)),
-            dir: 0,
-        }; 4],
+        list: [NO_PICK; 4],
         count: 0,
         taken,
     }
@@ -122,12 +152,14 @@ fn tip_pick(h: &Hints, s: Slot, t: Slot) -> MfmvRef
 
 // Of the pair, the slot that stands later in the order is the source.
 #[tactic(auto, unfolding(crate::specs::Frame::tip_add))]
-fn tip_add(h: &Hints, place: &[u8; 7], a: Slot, b: Slot, p: &mut Picks)
-    requires first { a.0 < 7 }
-    requires second { b.0 < 7 }
-    requires room { p.old.count < 4 }
-    ensures { p.new ≡ tip_add h.now.pocs place.now a b p.old }
+fn tip_add(h: &Hints, place: &[u8; 7], pair: TipPair, p: &mut Picks)
+    requires { p.old.count < 4 }
+    ensures { p.new ≡ tip_add h.now.pocs place.now pair.first pair.second p.old }
 {
+    let TipPair {
+        first: a,
+        second: b,
+    } = pair;
     if place[b.index()] < place[a.index()] {
         p.push(tip_pick(h, a, b));
     } else {
@@ -137,64 +169,37 @@ fn tip_add(h: &Hints, place: &[u8; 7], a: Slot, b: Slot, p: &mut Picks)
 
 // The TIP pair, where one of the two is earlier than the frame.
 #[tactic(auto, unfolding(crate::specs::Frame::with_tip))]
-fn tip_source(
-    h: &Hints,
-    on: bool,
-    sign: &[bool; 7],
-    place: &[u8; 7],
-    a: Slot,
-    b: Slot,
-    p: &mut Picks,
-)
-    requires first { a.0 < 7 }
-    requires second { b.0 < 7 }
-    requires room { p.old.count < 4 }
-    ensures { p.new ≡ with_tip h.now.pocs on sign.now place.now a b p.old }
+fn tip_source(c: &Compared, on: bool, place: &[u8; 7], pair: TipPair, p: &mut Picks)
+    requires { p.old.count < 4 }
+    ensures { p.new ≡ with_tip c.now.hints.hints.pocs on c.now.sign place.now pair.first pair.second p.old }
 {
-    if on && (sign[a.index()] || sign[b.index()]) {
-        tip_add(h, place, a, b, p);
+    if on && (c.sign[pair.first.index()] || c.sign[pair.second.index()]) {
+        tip_add(&c.hints.hints, place, pair, p);
     }
 }
 
 // All sources, in the order in which they are picked.
-fn pick_sources(
-    h: &FrameHints,
-    present: &[bool; 7],
-    tip: bool,
-    a: Slot,
-    b: Slot,
-    sign: &[bool; 7],
-    diff: &[i8; 7],
-) -> Picks
-    requires first { a.0 < 7 }
-    requires second { b.0 < 7 }
-    requires signs { sign.now ≡ signs h.now.hints.pocs }
-    requires diffs { diff.now ≡ diffs h.now.hints.pocs }
-    ensures { result ≡ picked h.now.hints.pocs present.now tip a b }
+fn pick_sources(c: &Compared, present: &[bool; 7], tip: bool, pair: TipPair) -> Picks
+    ensures { result ≡ picked c.now.hints.hints.pocs present.now tip pair.first pair.second }
 {
-    let hints = &h.hints;
-    let n = hints.pocs.n_refs;
-    let order = rank::sort_slots(diff, n);
-    let first = first_later(sign, &order, n);
-    let links = refs::links_of(&hints.pocs);
+    let pocs = &c.hints.hints.pocs;
+    let n = pocs.n_refs;
+    let order = rank::sort_slots(&c.diff, n);
+    let first = first_later(&c.sign, &order[..n]);
+    let links = refs::links_of(pocs);
     let o = topo::topo_order(&links, n);
     let mut p = start(present, n);
-    tip_source(hints, tip, sign, &o.place, a, b, &mut p);
-    p.pick_neighbours(h, &order, first);
+    tip_source(c, tip, &o.place, pair, &mut p);
+    p.pick_neighbours(&c.hints, &order, first);
     p.pick_nearest(&order, first);
-    p.pick_rest(diff, &o.list, o.count);
+    p.pick_rest(&c.diff, &o.list[..o.count]);
     p
 }
 
 fn no_source() -> Source
     ensures { result ≡ no_source }
 {
-    let none = MfmvRef {
-        reference: Slot(0),
-        tgt: Some(Slot(0)),
-        dir: 0,
-    };
-    entry::blank(&none, 0)
+    entry::blank(&NO_PICK, 0)
 }
 
 fn no_sources(n: usize, mask: u8) -> Sources
@@ -263,6 +268,8 @@ fn fill_sources(h: &Hints, p: &Picks) -> Sources
 }
 
 // A TIP slot as a slot; one out of range is never looked at.
+// No Option: refusal 8 has tested the pair where it is looked at, and each of the two places that look at it tests the header's switch itself. With an
+// Option each would have one more case, which no header comes to.
 #[tactic(auto, unfolding(crate::specs::Frame::slot_of))]
 fn tip_slot(t: i8) -> Slot
     ensures value { result ≡ slot_of t }
@@ -276,35 +283,44 @@ fn tip_slot(t: i8) -> Slot
     }
 }
 
-fn sources_of(f: &Header, h: &FrameHints, sign: &[bool; 7], diff: &[i8; 7]) -> Sources
-    requires hints { h.now.hints.pocs ≡ f.now.pocs }
-    requires signs { sign.now ≡ signs h.now.hints.pocs }
-    requires diffs { diff.now ≡ diffs h.now.hints.pocs }
+fn tip_pair(f: &Header) -> TipPair
+    ensures first { result.first ≡ slot_of f.now.tip0 }
+    ensures second { result.second ≡ slot_of f.now.tip1 }
+{
+    TipPair {
+        first: tip_slot(f.tip0),
+        second: tip_slot(f.tip1),
+    }
+}
+
+fn compared(hints: FrameHints) -> Compared
+    ensures { result.hints ≡ hints }
+{
+    let sign = refs::all_signs(&hints.hints);
+    let diff = refs::all_diffs(&hints.hints);
+    Compared { hints, sign, diff }
+}
+
+fn sources_of(f: &Header, c: &Compared, pair: TipPair) -> Sources
+    requires hints { c.now.hints.hints.pocs ≡ f.now.pocs }
+    requires first { pair.first ≡ slot_of f.now.tip0 }
+    requires second { pair.second ≡ slot_of f.now.tip1 }
     ensures { result ≡ sources_of f.now }
 {
-    if !f.use_ref_frame_mvs || h.hints.pocs.nbits == 0 || h.hints.pocs.n_refs < 2 {
+    let pocs = &c.hints.hints.pocs;
+    if !f.use_ref_frame_mvs || pocs.nbits == 0 || pocs.n_refs < 2 {
         return no_sources(0, 0);
     }
-    let p = pick_sources(
-        h,
-        &f.rp_ref,
-        f.tip,
-        tip_slot(f.tip0),
-        tip_slot(f.tip1),
-        sign,
-        diff,
-    );
-    fill_sources(&h.hints, &p)
+    let p = pick_sources(c, &f.rp_ref, f.tip, pair);
+    fill_sources(&c.hints.hints, &p)
 }
 
 #[tactic(auto, unfolding(crate::specs::Frame::tip_diff))]
-fn tip_diff(h: &Hints, both: bool, a: Slot, b: Slot) -> i32
-    requires first { a.0 < 7 }
-    requires second { b.0 < 7 }
-    ensures { result ≡ tip_diff h.now.pocs both a b }
+fn tip_diff(h: &Hints, both: bool, pair: TipPair) -> i32
+    ensures { result ≡ tip_diff h.now.pocs both pair.first pair.second }
 {
-    let p = h.hint(a);
-    let q = h.hint(b);
+    let p = h.hint(pair.first);
+    let q = h.hint(pair.second);
     if both { h.diff(q, p) } else { h.diff(p, q) }
 }
 
@@ -315,24 +331,17 @@ fn in_byte(m: u32) -> i8
     i8::try_from(m).unwrap_or(-128)
 }
 
-fn tip_of(h: &Hints, mode: u8, both: bool, a: Slot, b: Slot, diff: &[i8; 7]) -> Tip
-    requires first { a.0 < 7 }
-    requires second { b.0 < 7 }
-    requires diffs { diff.now ≡ diffs h.now.pocs }
-    ensures { result ≡ tip_of h.now.pocs mode both a b }
+fn tip_of(c: &Compared, mode: u8, both: bool, pair: TipPair) -> Tip
+    ensures { result ≡ tip_of c.now.hints.hints.pocs mode both pair.first pair.second }
 {
     if mode == 0 {
-        return Tip {
-            delta: 0,
-            sf0: 0,
-            sf1: 0,
-        };
+        return Tip::NONE;
     }
-    let d = tip_diff(h, both, a, b);
+    let d = tip_diff(&c.hints.hints, both, pair);
     Tip {
         delta: in_byte(d.unsigned_abs()),
-        sf0: entry::ratio(i32::from(diff[a.index()]), d),
-        sf1: entry::ratio(i32::from(diff[b.index()]), d),
+        sf0: entry::ratio(i32::from(c.diff[pair.first.index()]), d),
+        sf1: entry::ratio(i32::from(c.diff[pair.second.index()]), d),
     }
 }
 
@@ -361,15 +370,22 @@ pub fn bad_size(n: u32) -> bool
     n == 0 || 65536 < n
 }
 
+/// What a test answers: its refusal where what is tested is bad.
+pub fn refused_if(bad: bool, why: Refusal) -> Result<(), Refusal>
+    ensures { result ≡ refused_if bad why }
+{
+    if bad {
+        return Err(why);
+    }
+    Ok(())
+}
+
 // Refusal 5.
 #[tactic(auto, unfolding(crate::specs::Frame::bad_superblock))]
 fn check_superblock(f: &Header) -> Result<(), Refusal>
     ensures { result ≡ refused_if (bad_superblock f.now.sb128) Refusal.BadSuperblock }
 {
-    if 2 < f.sb128 {
-        return Err(Refusal::BadSuperblock);
-    }
-    Ok(())
+    refused_if(2 < f.sb128, Refusal::BadSuperblock)
 }
 
 // Refusal 6.
@@ -377,20 +393,15 @@ fn check_superblock(f: &Header) -> Result<(), Refusal>
 fn check_step(f: &Header) -> Result<(), Refusal>
     ensures { result ≡ refused_if (bad_step f.now.tmvp_sample_step) Refusal.BadStep }
 {
-    if f.tmvp_sample_step != 1 && f.tmvp_sample_step != 2 {
-        return Err(Refusal::BadStep);
-    }
-    Ok(())
+    let bad = f.tmvp_sample_step != 1 && f.tmvp_sample_step != 2;
+    refused_if(bad, Refusal::BadStep)
 }
 
 // Refusal 7.
 fn check_size(f: &Header) -> Result<(), Refusal>
     ensures { result ≡ refused_if (bad_size f.now.width || bad_size f.now.height) Refusal.BadSize }
 {
-    if bad_size(f.width) || bad_size(f.height) {
-        return Err(Refusal::BadSize);
-    }
-    Ok(())
+    refused_if(bad_size(f.width) || bad_size(f.height), Refusal::BadSize)
 }
 
 // Refusal 8.
@@ -398,10 +409,8 @@ fn check_size(f: &Header) -> Result<(), Refusal>
 fn check_tip(f: &Header) -> Result<(), Refusal>
     ensures { result ≡ refused_if (bad_tip f.now) Refusal.BadTipSlot }
 {
-    if looks_at_tip(f) && (not_in_use(f, f.tip0) || not_in_use(f, f.tip1)) {
-        return Err(Refusal::BadTipSlot);
-    }
-    Ok(())
+    let bad = looks_at_tip(f) && (not_in_use(f, f.tip0) || not_in_use(f, f.tip1));
+    refused_if(bad, Refusal::BadTipSlot)
 }
 
 fn frame_of(f: &Header, h: &FrameHints) -> Frame
@@ -409,11 +418,9 @@ fn frame_of(f: &Header, h: &FrameHints) -> Frame
     ensures { result ≡ frame_of f.now }
 {
     let hints = &h.hints;
-    let ref_sign = refs::all_signs(hints);
-    let pocdiff = refs::all_diffs(hints);
-    let a = tip_slot(f.tip0);
-    let b = tip_slot(f.tip1);
-    let sources = sources_of(f, h, &ref_sign, &pocdiff);
+    let c = compared(*h);
+    let pair = tip_pair(f);
+    let sources = sources_of(f, &c, pair);
     Frame {
         width: f.width,
         height: f.height,
@@ -424,11 +431,11 @@ fn frame_of(f: &Header, h: &FrameHints) -> Frame
         tip0: f.tip0,
         tip1: f.tip1,
         rp_ref: f.rp_ref,
-        ref_sign,
-        pocdiff,
+        ref_sign: c.sign,
+        pocdiff: c.diff,
         abspocdiff: refs::all_abs_diffs(hints),
-        ref_flip: refs::flip_mask(h, &ref_sign),
-        tip: tip_of(hints, f.tip_frame_mode, f.has_bothside_refs, a, b, &pocdiff),
+        ref_flip: refs::flip_mask(h, &c.sign),
+        tip: tip_of(&c, f.tip_frame_mode, f.has_bothside_refs, pair),
         use_ref_frame_mvs: 0 < sources.n_mfmvs,
         sources,
     }
@@ -452,11 +459,7 @@ pub fn zero_frame() -> Frame
         pocdiff: [0; 7],
         abspocdiff: [0; 7],
         ref_flip: 0,
-        tip: Tip {
-            delta: 0,
-            sf0: 0,
-            sf1: 0,
-        },
+        tip: Tip::NONE,
         use_ref_frame_mvs: false,
         sources: no_sources(0, 0),
     }

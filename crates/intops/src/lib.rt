@@ -9,7 +9,7 @@ ghost use Rattle.intops.specs.Bits.{highest_bit};
 ghost use Rattle.intops.specs.Rounding.{round_div};
 
 /// The greater of two numbers.
-// This, imin and umax are std's `max` and `min` by the names of intops.rs: this crate has its functions.
+// This, imin, umax, unsigned_abs and ulog2 are std's `max`, `min`, `unsigned_abs` and `ilog2` by the names of intops.rs: this crate has its functions.
 pub fn imax(a: i32, b: i32) -> i32
     ensures { result ≡ max_z a b }
 {
@@ -79,7 +79,7 @@ pub fn ulog2(v: u32) -> u32
     requires { 0 < v }
     ensures { result ≡ highest_bit v }
 {
-    31 - v.leading_zeros()
+    v.ilog2()
 }
 
 /// p / 2^bits, rounded to nearest, halves away from zero.

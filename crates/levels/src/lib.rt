@@ -1,8 +1,9 @@
 // The types of levels.rs that the motion field is made of, and why a call is refused.
 #![tactic(auto)]
 
-ghost use Rattle.std.specs.Prelude.{◌≡◌};
+ghost use Rattle.std.specs.Prelude.{◌≡◌, ◌<◌};
 ghost use Rattle.levels.specs.Answer.{number_of};
+ghost use Rattle.levels.specs.Slots.{slot};
 
 use std::fmt;
 
@@ -38,7 +39,9 @@ impl QMv {
 }
 
 /// A reference slot, 0 to 6: who takes one tests it. It is no order hint.
-// No type of 0 to 6 alone (`TryFrom<u8>`, `impl Model`): it stands in the records that C hands over, in which it may be any byte, and a load tests those.
+// No type of 0 to 6 alone (`TryFrom<u8>`, a ghost field): it stands in the records that C hands over, in which it may be any byte, and a load tests those.
+// Nor a second type of tested slots beside it: the definitions make slots and lists of slots, and would carry a proof for each, and each picked slot goes into a
+// record of C's again. So functions ask for `s.0 < 7`.
 #[repr(C)]
 #[derive(Clone, Copy, PartialEq, Eq, Debug)]
 pub struct Slot(pub u8);
@@ -49,6 +52,15 @@ impl Slot {
         ensures { result ≡ self.0 }
     {
         usize::from(self.0)
+    }
+
+    /// The slot of an index. No other function makes a slot of an index.
+    pub fn from_index(i: usize) -> Slot
+        requires { i < 256 }
+        ensures { result ≡ slot i }
+    {
+        // `as`, as no From goes from usize to u8.
+        Slot(i as u8)
     }
 }
 
@@ -62,29 +74,29 @@ pub struct OrderHint(pub u8);
 #[derive(Clone, Copy, PartialEq, Eq, Debug)]
 pub enum Refusal {
     /// 1: a component past ±65,535, crossed bounds, or a factor past ±507,904.
-    VectorOutOfRange,
+    VectorOutOfRange = 1,
     /// 2: exactly one byte of a packed vector is -128.
-    HalfMark,
+    HalfMark = 2,
     /// 3: hint bits above 8.
-    TooManyBits,
+    TooManyBits = 3,
     /// 4: more than seven slots in use.
-    TooManySlots,
+    TooManySlots = 4,
     /// 5: a superblock code above 2.
-    BadSuperblock,
+    BadSuperblock = 5,
     /// 6: a sample step that is not 1 or 2.
-    BadStep,
+    BadStep = 6,
     /// 7: a width or height that is not 1 to 65,536.
-    BadSize,
+    BadSize = 7,
     /// 8: a TIP slot that is not a slot in use, where the setup looks at the TIP pair.
-    BadTipSlot,
+    BadTipSlot = 8,
     /// 9: a setup out of its ranges.
-    SetupOutOfRange,
+    SetupOutOfRange = 9,
     /// 10: columns or rows that are no tile's.
-    TileOutOfRange,
+    TileOutOfRange = 10,
     /// 11: planes, or a list of the store, shorter than stated.
-    TooShort,
+    TooShort = 11,
     /// 12: a saved block of the superblock row, or a trajectory, out of range.
-    ContentsOutOfRange,
+    ContentsOutOfRange = 12,
 }
 
 impl Refusal {
@@ -92,20 +104,8 @@ impl Refusal {
     pub fn number(self) -> u8
         ensures { result ≡ number_of self }
     {
-        match self {
-            Refusal::VectorOutOfRange => 1,
-            Refusal::HalfMark => 2,
-            Refusal::TooManyBits => 3,
-            Refusal::TooManySlots => 4,
-            Refusal::BadSuperblock => 5,
-            Refusal::BadStep => 6,
-            Refusal::BadSize => 7,
-            Refusal::BadTipSlot => 8,
-            Refusal::SetupOutOfRange => 9,
-            Refusal::TileOutOfRange => 10,
-            Refusal::TooShort => 11,
-            Refusal::ContentsOutOfRange => 12,
-        }
+        // `as`: a variant's number is no type's value that a From would be of.
+        self as u8
     }
 }
 

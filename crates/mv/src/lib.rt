@@ -282,6 +282,7 @@ impl Sum {
     }
 
     /// The mean of gap filling.
+    // Not one with `smoothed`, which answers for no cells too: this is never asked of none, and takes another average.
     pub fn gap_mean(self) -> Mv
         requires fair { Fair self }
         requires some { 1 ≤ self.n }

@@ -1,6 +1,6 @@
 -- What is picked is a slot. Assumes nothing.
-use Rattle.std.proofs.lemmas.List.{length_push}
-use Rattle.std.proofs.Common.{◌≡◌, refl, ap, sym, ◌∙◌, suc, arith, length, take, [], ◌∷◌, ◌++◌, Bool, true, false, cond, ℕ, ◌+◌, ◌-◌, ◌<◌, List, Option, Some, None, leb, ltb, get_or}
+use Rattle.std.proofs.lemmas.List.{length_push, length-take-le, get_or-take}
+use Rattle.std.proofs.Common.{◌≡◌, refl, ap, sym, ◌∙◌, suc, arith, length, take, [], ◌∷◌, ◌++◌, Bool, true, false, cond, ℕ, zero, ◌+◌, ◌-◌, ◌<◌, ◌≤◌, List, Option, Some, None, leb, ltb, leb-false, get_or}
 use Rattle.levels.specs.declared.Slot.{Slot}
 use Rattle.levels.specs.Slots.{slot}
 use Rattle.picks.specs.Picks.{Valid, Slots, with_side, nth_earlier, nth_later}
@@ -45,3 +45,23 @@ front_less xs ys zs s e f =
     let n : length zs ≡ suc (length ys) = omega (arith, ap length e, length_push ys s) in
     let g = front_go xs ys s (sym e ∙ f ∙ ap (λ (k : ℕ). take k xs) n) in
     (omega arith, g.0, g.1)
+
+-- ---- the front of a list of slots
+
+pub take_slots : (xs : List Slot) (c : ℕ) → Slots xs → Slots (take c xs)
+take_slots [] zero v k = v k
+take_slots [] (suc c) v k = v k
+take_slots (x ∷ xs) zero v k = omega arith
+take_slots (x ∷ xs) (suc c) v zero = v 0
+take_slots (x ∷ xs) (suc c) v (suc k) = take_slots xs c (λ i. v (suc i)) k
+
+later_go : (xs : List Slot) (c i : ℕ) (t : Bool) → leb c i ≡ t → cond t None (Some (get_or (take c xs) i (slot 0))) ≡ cond t None (Some (get_or xs i (slot 0)))
+later_go xs c i true e = refl
+later_go xs c i false e = ap Some (get_or-take c xs i (slot 0) (omega (arith, leb-false c i e)))
+
+-- the later slots are among the first c
+pub later_take : (xs : List Slot) (f c n : ℕ) → c ≤ length xs → nth_later (take c xs) f (length (take c xs)) n ≡ nth_later xs f c n
+unfolding nth_later
+later_take xs f c n h =
+    let m : length (take c xs) ≡ c = length-take-le c xs h in
+    rw m (later_go xs c (f + n) (leb c (f + n)) refl)

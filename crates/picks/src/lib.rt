@@ -1,7 +1,7 @@
 // The picking of the sources.
 #![tactic(auto)]
 
-ghost use Rattle.std.specs.Prelude.{◌≡◌, ◌≤◌, ◌<◌, ◌+◌, IfOk};
+ghost use Rattle.std.specs.Prelude.{◌≡◌, ◌≤◌, ◌<◌, ◌+◌, length, IfOk};
 ghost use Rattle.levels.specs.Answer.{refusal_of};
 ghost use Rattle.env.specs.Hints.{hint_diff};
 ghost use Rattle.picks.specs.Hints.{hint_of, bits_refusal, hints_refusal, saved_diff_of, same_side, closer_of, closest, on_side, some_on_side};
@@ -92,71 +92,13 @@ impl Hints {
         self.pocs.ref_poc[s.index()]
     }
 
-    // From reference n of slot s to the hint a, 0 where the slot has no references.
-    #[tactic(auto, unfolding(crate::specs::Hints::saved_diff_of))]
-    fn saved_diff(&self, a: OrderHint, s: Slot, n: usize) -> i32
-        requires slot { s.0 < 7 }
-        requires reference { n < 7 }
-        ensures { result ≡ saved_diff_of self.now.pocs a s.0 n }
+    // A slot among the hints.
+    fn of_slot(&self, slot: Slot) -> SlotHints<'_>
+        requires { slot.0 < 7 }
+        ensures slot { result.slot ≡ slot }
+        ensures hints { result.hints.now ≡ self.now }
     {
-        let saved = &self.pocs.saved[s.index()];
-        if saved.refcnt == 0 {
-            0
-        } else {
-            self.diff(a, saved.ref_poc[n])
-        }
-    }
-
-    // The lesser of b and the distance from slot s to its reference n, where that is on the same side of the slot and of the frame.
-    #[tactic(auto, unfolding(crate::specs::Hints::closer_of))]
-    fn nearer(&self, s: Slot, late: bool, n: usize, b: u32) -> u32
-        requires slot { s.0 < 7 }
-        requires reference { n < 7 }
-        ensures { result ≡ closer_of self.now.pocs s.0 late n b }
-    {
-        let d = self.saved_diff(self.hint(s), s, n);
-        let e = self.saved_diff(self.pocs.poc, s, n);
-        let m = d.unsigned_abs();
-        if same_side(d, e, late) && m < b { m } else { b }
-    }
-
-    // abs_closest_ref: the least such distance, 255 if there is none.
-    #[tactic(auto, using(loops::proofs::Turns::span_turn, loops::proofs::Turns::span_end), unfolding(crate::specs::Hints::closest))]
-    fn abs_closest_ref(&self, s: Slot, late: bool) -> u32
-        requires { s.0 < 7 }
-        ensures { result ≡ closest self.now.pocs s.0 late }
-    {
-        // A reference's number is what `nearer` takes, and b goes from one to the next: `fold` would say the same with a closure.
-        let mut b: u32 = 255;
-        for n in 0..7 {
-            b = self.nearer(s, late, n, b);
-        }
-        b
-    }
-
-    // Is reference n of slot s later than the slot, or with late off earlier?
-    #[tactic(auto, unfolding(crate::specs::Hints::on_side))]
-    fn is_on_side(&self, s: Slot, late: bool, n: usize) -> bool
-        requires slot { s.0 < 7 }
-        requires reference { n < 7 }
-        ensures { result ≡ on_side self.now.pocs s.0 late n }
-    {
-        let d = self.saved_diff(self.hint(s), s, n);
-        if late { d < 0 } else { 0 < d }
-    }
-
-    // have_ref_sign: has slot s a reference later than itself, or with late off an earlier one?
-    #[tactic(auto, using(loops::proofs::Turns::span_turn, loops::proofs::Turns::span_end), unfolding(crate::specs::Hints::some_on_side))]
-    fn has_on_side(&self, s: Slot, late: bool) -> bool
-        requires { s.0 < 7 }
-        ensures { result ≡ some_on_side self.now.pocs s.0 late }
-    {
-        // Each reference is looked at, so that no branch depends on which is on the side: `any` would leave at the first.
-        let mut b = false;
-        for n in 0..7 {
-            b |= self.is_on_side(s, late, n);
-        }
-        b
+        SlotHints { hints: self, slot }
     }
 
     // A candidate, if it has a reference on the wanted side.
@@ -166,7 +108,7 @@ impl Hints {
         ensures value { result ≡ with_side self.now.pocs late candidate }
         ensures slot { Valid result }
     {
-        candidate.filter(|s| self.has_on_side(*s, late))
+        candidate.filter(|s| self.of_slot(*s).has_on_side(late))
     }
 
     // Does the earlier neighbour come first?
@@ -179,7 +121,74 @@ impl Hints {
         let (Some(a), Some(b)) = (a, b) else {
             return false;
         };
-        self.abs_closest_ref(a, false) < self.abs_closest_ref(b, true)
+        self.of_slot(a).abs_closest_ref(false) < self.of_slot(b).abs_closest_ref(true)
+    }
+}
+
+// A slot, and the hints that it is looked up in.
+#[derive(Clone, Copy)]
+struct SlotHints<'a> {
+    hints: &'a Hints,
+    slot: Slot,
+    ghost low: { slot.0 < 7 },
+}
+
+impl<'a> SlotHints<'a> {
+    // From the slot's reference n to the hint a, 0 where the slot has no references.
+    #[tactic(auto, unfolding(crate::specs::Hints::saved_diff_of))]
+    fn saved_diff(&self, a: OrderHint, n: usize) -> i32
+        requires { n < 7 }
+        ensures { result ≡ saved_diff_of self.now.hints.now.pocs a self.now.slot.0 n }
+    {
+        let saved = &self.hints.pocs.saved[self.slot.index()];
+        if saved.refcnt == 0 {
+            0
+        } else {
+            self.hints.diff(a, saved.ref_poc[n])
+        }
+    }
+
+    // The lesser of b and the distance from the slot to its reference n, where that is on the same side of the slot and of the frame.
+    #[tactic(auto, unfolding(crate::specs::Hints::closer_of))]
+    fn nearer(&self, late: bool, n: usize, b: u32) -> u32
+        requires { n < 7 }
+        ensures { result ≡ closer_of self.now.hints.now.pocs self.now.slot.0 late n b }
+    {
+        let d = self.saved_diff(self.hints.hint(self.slot), n);
+        let e = self.saved_diff(self.hints.pocs.poc, n);
+        let m = d.unsigned_abs();
+        if same_side(d, e, late) && m < b { m } else { b }
+    }
+
+    // abs_closest_ref: the least such distance, 255 if there is none.
+    #[tactic(auto, using(loops::proofs::Turns::span_turn, loops::proofs::Turns::span_end), unfolding(crate::specs::Hints::closest))]
+    fn abs_closest_ref(&self, late: bool) -> u32
+        ensures { result ≡ closest self.now.hints.now.pocs self.now.slot.0 late }
+    {
+        // By number: a reference's number is what `nearer` takes.
+        let mut b: u32 = 255;
+        for n in 0..7 {
+            b = self.nearer(late, n, b);
+        }
+        b
+    }
+
+    // Is the slot's reference n later than the slot, or with late off earlier?
+    #[tactic(auto, unfolding(crate::specs::Hints::on_side))]
+    fn is_on_side(&self, late: bool, n: usize) -> bool
+        requires { n < 7 }
+        ensures { result ≡ on_side self.now.hints.now.pocs self.now.slot.0 late n }
+    {
+        let d = self.saved_diff(self.hints.hint(self.slot), n);
+        if late { d < 0 } else { 0 < d }
+    }
+
+    // have_ref_sign: has the slot a reference later than itself, or with late off an earlier one?
+    #[tactic(auto, unfolding(crate::specs::Hints::some_on_side))]
+    fn has_on_side(&self, late: bool) -> bool
+        ensures { result ≡ some_on_side self.now.hints.now.pocs self.now.slot.0 late }
+    {
+        (0..7).any(|n| self.is_on_side(late, n))
     }
 }
 
@@ -191,6 +200,8 @@ fn same_side(d: i32, e: i32, late: bool) -> bool
 }
 
 /// A source that is picked: its slot, its target slot or `None` for any, and the direction, 1 or 0.
+// The direction is a byte, as in C's record, and no enum of two: of any byte a source's entries are found (`source_of` of entry), and it is an index: of a
+// saved block's two references and vectors, and here of what is taken.
 #[derive(Clone, Copy)]
 pub struct MfmvRef {
     pub reference: Slot,
@@ -265,9 +276,11 @@ impl Picks {
         ensures { self.new ≡ neighbours h.now.hints.pocs order.now first self.old }
     {
         let hints = &h.hints;
+        let in_use = &order[..hints.pocs.n_refs];
+        // By number: a round's number says which neighbours it takes.
         for n in 0..2 {
             let a = hints.with_side(nth_earlier(order, first, n + 1), true);
-            let b = hints.with_side(nth_later(order, first, hints.pocs.n_refs, n), false);
+            let b = hints.with_side(nth_later(in_use, first, n), false);
             self.in_turn(hints, a, b);
         }
     }
@@ -294,14 +307,13 @@ impl Picks {
         self.offer(4, Some(s), 1 - first);
     }
 
-    /// The first `count` slots of the dependency order, from its end: up to four sources.
+    /// The slots of the dependency order, from its end: up to four sources.
     #[tactic(auto, using(loops::proofs::Turns::span_turn, loops::proofs::Turns::span_end), unfolding(crate::specs::Picks::rest))]
-    pub fn pick_rest(&mut self, diffs: &[i8; 7], list: &[Slot; 7], count: usize)
-        requires count { count ≤ 7 }
-        requires slots { Slots list.now }
-        ensures { self.new ≡ rest diffs.now list.now count self.old }
+    pub fn pick_rest(&mut self, diffs: &[i8; 7], list: &[Slot])
+        requires { Slots list.now }
+        ensures { self.new ≡ rest diffs.now list.now (length list.now) self.old }
     {
-        for s in list[..count].iter().rev() {
+        for s in list.iter().rev() {
             self.both_ways(diffs, *s);
         }
     }
@@ -315,26 +327,17 @@ fn nth_earlier(order: &[Slot; 7], first: usize, k: usize) -> Option<Slot>
     ensures value { result ≡ nth_earlier order.now first k }
     ensures slot { Slots order.now → Valid result }
 {
-    if first < k {
-        None
-    } else {
-        Some(order[first - k])
-    }
+    Some(order[first.checked_sub(k)?])
 }
 
-// The n-th slot from the first later one on, of `count` in all, counted from 0.
+// The n-th slot from the first later one on, counted from 0.
 #[tactic(auto, unfolding(crate::specs::Picks::nth_later))]
-fn nth_later(order: &[Slot; 7], first: usize, count: usize, n: usize) -> Option<Slot>
+fn nth_later(order: &[Slot], first: usize, n: usize) -> Option<Slot>
     requires first { first ≤ 7 }
-    requires count { count ≤ 7 }
     requires counted { n ≤ 7 }
     requires slots { Slots order.now }
-    ensures value { result ≡ nth_later order.now first count n }
+    ensures value { result ≡ nth_later order.now first (length order.now) n }
     ensures slot { Valid result }
 {
-    if count <= first + n {
-        None
-    } else {
-        Some(order[first + n])
-    }
+    order.get(first + n).copied()
 }

@@ -75,11 +75,7 @@ pub fn link_of(pocs: &Pocs, saved: &Saved, n: usize) -> Option<Slot>
         return None;
     }
     let refs = pocs.n_refs;
-    match entry::find_hint(&pocs.ref_poc, saved.ref_poc[n], refs) {
-        // `as`, as no From goes from usize to u8: k is below 7.
-        Some(k) => Some(Slot(k as u8)),
-        None => None,
-    }
+    entry::find_hint(&pocs.ref_poc, saved.ref_poc[n], refs).map(Slot::from_index)
 }
 
 // The links of slot i, none where it is not in use.
@@ -126,7 +122,7 @@ pub fn flip_row(h: &FrameHints, sign: &[bool; 7], i: usize) -> u64
     ensures { result ≡ flip_row h.now.hints.pocs sign.now i }
 {
     let hints = &h.hints;
-    // A slot's number is its bit's place, here and in `flip_mask`: `fold` would say the same with a closure.
+    // By number, here and in `flip_mask`: a slot's number is its bit's place.
     let mut r: u64 = 0;
     for n in 0..hints.pocs.n_refs {
         let f = flip(

@@ -59,8 +59,7 @@ pub fn topo_order(links: &[[Option<Slot>; 7]; 7], n: usize) -> Order
     };
     // By its number: a slot's number is what is entered.
     for i in 0..n {
-        // `as`, as no From goes from usize to u8: i is below 7.
-        o = topo_insert(o, links, Slot(i as u8));
+        o = topo_insert(o, links, Slot::from_index(i));
     }
     o
 }

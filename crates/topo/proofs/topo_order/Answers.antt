@@ -12,10 +12,10 @@ loop-i-init c = (omega arith, none_room, refl)
 pub loop-i-preserved : goal.loop-i-preserved
 loop-i-preserved c =
     let l = c.loop-i in let a = c.args in let k = c.topo_insert-o in
-    let h = c.loop-i-test.true in (
+    let h = c.loop-i-test.true in let e = rw c.from_index.ensures at k.ensures in (
       omega arith,
-      rw k.ensures (grown_room (grown 7 a.links.now l.i l.o (omega arith) l.invariant.1) l.invariant.1),
-      turned (enter 7 a.links.now) a.n l.i l.o _ _ h k.ensures l.invariant.2,
+      rw e (grown_room (grown 7 a.links.now l.i l.o (omega arith) l.invariant.1) l.invariant.1),
+      turned (enter 7 a.links.now) a.n l.i l.o _ _ h e l.invariant.2,
     )
 
 pub returns : goal.returns

@@ -8,4 +8,5 @@ use Rattle.picks.proofs.Picks.pick_rest.Given as goal
 abbrev pub invariant-loop-s : goal.invariant-loop-s
 invariant-loop-s l =
     let left = l.s-iterator.iter.rest.now in
-    (left ≡ take (length left) l.list) × (length left ≤ l.count) × (span (from_end l.diffs l.list l.count) (l.count - length left) l.count l.self ≡ rest l.diffs l.list l.count l.initial.self)
+    let count = length l.list in
+    (left ≡ take (length left) l.list) × (length left ≤ count) × (span (from_end l.diffs l.list count) (count - length left) count l.self ≡ rest l.diffs l.list count l.initial.self)
