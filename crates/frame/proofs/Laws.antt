@@ -1,6 +1,6 @@
 -- The leading run; that what is picked are sources in range; the straight lines of calls. Assumes nothing.
-use Rattle.std.proofs.Common.{◌≡◌, refl, sym, ◌∙◌, length, take, drop, [], ◌∷◌, ◌/◌, Bool, true, false, cond, ◌&&◌, ◌||◌, Option, Some, None, Ok, Err, List, ℕ, zero, suc, ◌+◌, ◌*◌, ◌-◌, ◌<◌, ◌≤◌, ltb, leb, ℤ, pos, negsuc, nat_abs, leb-false, ne_eqb, ltb-false, arith, get_or, replicate}
-use Rattle.std.proofs.lemmas.List.{ext_get_or, drop_more}
+use Rattle.std.proofs.Common.{◌≡◌, refl, sym, ap, ◌∙◌, length, take, drop, [], ◌∷◌, ◌/◌, Bool, true, false, cond, ◌&&◌, ◌||◌, Option, Some, None, Ok, Err, List, ℕ, zero, suc, ◌+◌, ◌*◌, ◌-◌, ◌<◌, ◌≤◌, ltb, leb, ℤ, pos, negsuc, nat_abs, leb-false, ne_eqb, ltb-false, arith, get_or, replicate}
+use Rattle.std.proofs.lemmas.List.{ext_get_or, drop_more, length-take-le, take_all}
 use Rattle.std.specs.Bool.{⊤}
 use lib.Signed.{le_z, lt_z}
 use Rattle.env.specs.Hints.{hint_diff}
@@ -53,6 +53,13 @@ lead_is sg xs zero l h = omega arith
 lead_is sg xs (suc k) l h =
     let i : l < length xs = omega arith in
     rw (drop_more xs l (slot 0) i) (more (get_or sg (slot_at xs l) false) _ _ l (lead_is sg xs k (l + 1) (omega arith)))
+
+-- of the first k slots alone
+pub lead_front : (sg : List Bool) (xs : List Slot) (k : ℕ) → k ≤ length xs → leading sg (take k xs) (length (take k xs)) 0 ≡ leading sg xs k 0
+lead_front sg xs k h =
+    let m : length (take k xs) ≡ k = length-take-le k xs h in
+    let e : take k (drop 0 (take k xs)) ≡ take k xs = take_all k (take k xs) (omega (arith, m)) in
+    ap (λ n. leading sg (take k xs) n 0) m ∙ lead_is sg (take k xs) k 0 (omega (arith, m)) ∙ ap (λ zs. lead sg zs + 0) e ∙ sym (lead_is sg xs k 0 (omega (arith, h)))
 
 lead_go : (t : Bool) (a l k : ℕ) → a ≤ (l + 1) + k → cond t a l ≤ l + suc k
 lead_go true a l k h = omega arith

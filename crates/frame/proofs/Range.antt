@@ -1,5 +1,5 @@
 -- Each source of the record lies in the ranges that the loader tests. Assumes nothing.
-use Rattle.std.proofs.Common.{◌≡◌, refl, Bool, true, false, cond, List, Option, Some, None, IfSome, [], ◌∷◌, ◌<◌, ◌+◌, ℕ, zero, suc, ◌≤◌, arith, ltb, eqb, ℤ, pos, negsuc, neg_ℤ, nat_abs, ◌-ℤ◌, ◌≤ℤ◌, get_or, replicate, ltb-false}
+use Rattle.std.proofs.Common.{◌≡◌, refl, Bool, true, false, cond, List, Option, Some, None, IfSome, [], ◌∷◌, ◌<◌, ◌+◌, ℕ, zero, suc, ◌≤◌, arith, ltb, eqb, ℤ, pos, negsuc, neg_ℤ, nat_abs, ◌-ℤ◌, ◌≤ℤ◌, ◌-◌, get_or, replicate, ltb-false}
 use Rattle.loops.specs.Seven.{seven}
 use Rattle.loops.proofs.Seven.{seven_all}
 use Rattle.intops.specs.Choice.{pick_z}
@@ -35,9 +35,9 @@ found_in : (hs : List OrderHint) (x : OrderHint) → (negsuc 0 ≤ℤ found_slot
 unfolding found_slot
 found_in hs x = none_go (found hs x 7 0) (found_low hs x 7 0)
 
-target_go : (n : ℕ) (t : Bool) → n < 7 → ltb n 128 ≡ t → (negsuc 0 ≤ℤ pick_z t (pos n) (negsuc 0)) × (pick_z t (pos n) (negsuc 0) ≤ℤ pos 6)
+target_go : (n : ℕ) (t : Bool) → n < 7 → ltb n 128 ≡ t → (negsuc 0 ≤ℤ pick_z t (pos n) (negsuc (255 - n))) × (pick_z t (pos n) (negsuc (255 - n)) ≤ℤ pos 6)
 target_go n true h e = (omega (signed, h), omega (signed, h))
-target_go n false h e = (omega signed, omega signed)
+target_go n false h e = absurd (omega (arith, h, ltb-false n 128 e))
 
 target_in : (t : Option Slot) → Valid t → (negsuc 0 ≤ℤ target_byte t) × (target_byte t ≤ℤ pos 6)
 target_in None h = (omega signed, omega signed)

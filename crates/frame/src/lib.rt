@@ -103,6 +103,16 @@ struct Compared {
     ghost diffs: { diff ≡ diffs hints.hints.pocs },
 }
 
+impl Compared {
+    fn of(hints: FrameHints) -> Compared
+        ensures { result.hints ≡ hints }
+    {
+        let sign = refs::all_signs(&hints.hints);
+        let diff = refs::all_diffs(&hints.hints);
+        Compared { hints, sign, diff }
+    }
+}
+
 // A source that is not there, and no pick either.
 const NO_PICK: MfmvRef = MfmvRef {
     reference: Slot(0),
@@ -293,14 +303,6 @@ fn tip_pair(f: &Header) -> TipPair
     }
 }
 
-fn compared(hints: FrameHints) -> Compared
-    ensures { result.hints ≡ hints }
-{
-    let sign = refs::all_signs(&hints.hints);
-    let diff = refs::all_diffs(&hints.hints);
-    Compared { hints, sign, diff }
-}
-
 fn sources_of(f: &Header, c: &Compared, pair: TipPair) -> Sources
     requires hints { c.now.hints.hints.pocs ≡ f.now.pocs }
     requires first { pair.first ≡ slot_of f.now.tip0 }
@@ -418,7 +420,7 @@ fn frame_of(f: &Header, h: &FrameHints) -> Frame
     ensures { result ≡ frame_of f.now }
 {
     let hints = &h.hints;
-    let c = compared(*h);
+    let c = Compared::of(*h);
     let pair = tip_pair(f);
     let sources = sources_of(f, &c, pair);
     Frame {

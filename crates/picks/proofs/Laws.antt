@@ -1,9 +1,12 @@
 -- What is picked is a slot. Assumes nothing.
 use Rattle.std.proofs.lemmas.List.{length_push, length-take-le, get_or-take}
-use Rattle.std.proofs.Common.{◌≡◌, refl, ap, sym, ◌∙◌, suc, arith, length, take, [], ◌∷◌, ◌++◌, Bool, true, false, cond, ℕ, zero, ◌+◌, ◌-◌, ◌<◌, ◌≤◌, List, Option, Some, None, leb, ltb, leb-false, get_or}
+use Rattle.std.proofs.Common.{◌≡◌, refl, ap, sym, ◌∙◌, suc, arith, length, take, [], ◌∷◌, ◌++◌, Bool, true, false, cond, ℕ, zero, ◌+◌, ◌-◌, ◌<◌, ◌≤◌, ◌*◌, ℤ, List, Option, Some, None, leb, ltb, leb-false, get_or}
 use Rattle.levels.specs.declared.Slot.{Slot}
 use Rattle.levels.specs.Slots.{slot}
-use Rattle.picks.specs.Picks.{Valid, Slots, with_side, nth_earlier, nth_later}
+use Rattle.loops.specs.Over.{span}
+use Rattle.loops.proofs.Same.{over_same}
+use Rattle.picks.specs.Picks.{Valid, Slots, with_side, nth_earlier, nth_later, both_ways, from_end, rest}
+use Rattle.picks.specs.declared.Picks.{Picks}
 use Rattle.picks.specs.declared.Pocs.{Pocs}
 use Rattle.picks.specs.Hints.{some_on_side}
 
@@ -65,3 +68,12 @@ unfolding nth_later
 later_take xs f c n h =
     let m : length (take c xs) ≡ c = length-take-le c xs h in
     rw m (later_go xs c (f + n) (leb c (f + n)) refl)
+
+-- the dependency order from its end, of its first n slots alone
+pub rest_take : (d : List ℤ) (xs : List Slot) (n : ℕ) (p : Picks) → n ≤ length xs → rest d (take n xs) (length (take n xs)) p ≡ rest d xs n p
+unfolding rest span
+rest_take d xs n p h =
+    let m : length (take n xs) ≡ n = length-take-le n xs h in
+    let z : n - 0 ≡ n = omega arith in
+    rw (m, z) (over_same 1 n 0 (from_end d (take n xs) n) (from_end d xs n)
+    (λ j l s. ap (λ (x : Slot). both_ways d x s) (get_or-take n xs (n - 1 - (0 + j * 1)) (slot 0) (omega (arith, l)))) p)

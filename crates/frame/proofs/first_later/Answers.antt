@@ -1,7 +1,7 @@
 -- `frame::first_later` meets its contract. Assumes nothing.
-use Rattle.std.proofs.Common.{◌≡◌, refl, sym, ap, ◌∙◌, arith, rules, true, false, length, take, get_or}
+use Rattle.std.proofs.Common.{◌≡◌, refl, sym, ap, ◌∙◌, arith, rules, true, false, length, get_or}
 use Rattle.std.specs.Option.{unwrap_or}
-use Rattle.std.proofs.lemmas.List.{get_or-take, get_or_default}
+use Rattle.std.proofs.lemmas.List.{get_or_default, take_all}
 use Rattle.std.proofs.lemmas.Iterator.{YieldsList-from_slice, IsFirst-from_position, index_from_first}
 use Rattle.std.proofs.lemmas.Iterator.Adapters.{serves_from_places}
 use borrow.Author.Tests.{tests}
@@ -13,20 +13,17 @@ use Rattle.frame.proofs.first_later.Goals as goal
 
 pub position-later-requires-clause-callable : goal.position-later-requires-clause-callable
 position-later-requires-clause-callable c =
-    let n : length c.args.order.now ≡ 7 = search rules in
-    let m : length (take c.args.n c.args.order.now) ≡ c.args.n = grind (arith, n) in
-    serves_from_places (YieldsList-from_slice (take c.args.n c.args.order.now) c.iter.ensures.rest) (λ x q k. search rules) (λ x k l e.
-    let f : x.now ≡ get_or c.args.order.now k (slot 0) = e ∙ get_or-take c.args.n c.args.order.now k x.now (omega (arith, m)) ∙ get_or_default c.args.order.now k x.now (slot 0) (omega (arith, m, n)) in
-    rw f (c.requires.slots k))
+    serves_from_places (YieldsList-from_slice c.args.order.now c.iter.ensures.rest) (λ x q k. search rules) (λ x k l e.
+    let f : x.now ≡ get_or c.args.order.now k (slot 0) = e ∙ get_or_default c.args.order.now k x.now (slot 0) (omega (arith, l)) in
+    rw f (c.requires k))
 
 pub returns-clause-value : goal.returns-clause-value
 unfolding lead
 returns-clause-value c =
-    let a = c.args in let sg = a.sign.now in let front = take a.n a.order.now in let r = c.position-later.result in
-    let n : length a.order.now ≡ 7 = search rules in
-    let m : length front ≡ a.n = grind (arith, n) in
+    let a = c.args in let sg = a.sign.now in let xs = a.order.now in let r = c.position-later.result in
     let ran = IsFirst-from_position _ _ r (λ (s : Slot). get_or sg s.0 false ≡ false) (λ (s : Slot). get_or sg s.0 false ≡ true) c.position-later.ensures.ran
-    (YieldsList-from_slice front c.iter.ensures.rest) (λ x q k. search (rules, tests)) (λ x q k. search (rules, tests)) in
-    let e : lead sg front ≡ unwrap_or r (length front) = index_from_first (lead sg) (λ (s : Slot). get_or sg s.0 false ≡ false) (λ (s : Slot). get_or sg s.0 false ≡ true) refl (lead_hit sg) (lead_miss sg) front r ran in
-    let q : lead sg front ≡ leading sg a.order.now a.n 0 = omega (arith, lead_is sg a.order.now a.n 0 (omega (arith, n))) in
-    c.unwrap_or.ensures ∙ ap (unwrap_or r) (sym m) ∙ sym e ∙ q
+    (YieldsList-from_slice xs c.iter.ensures.rest) (λ x q k. search (rules, tests)) (λ x q k. search (rules, tests)) in
+    let e : lead sg xs ≡ unwrap_or r (length xs) = index_from_first (lead sg) (λ (s : Slot). get_or sg s.0 false ≡ false) (λ (s : Slot). get_or sg s.0 false ≡ true) refl (lead_hit sg) (lead_miss sg) xs r ran in
+    let t = take_all (length xs) xs (omega arith) in
+    let q : lead sg xs ≡ leading sg xs (length xs) 0 = omega (arith, lead_is sg xs (length xs) 0 (omega arith), ap (lead sg) t) in
+    c.unwrap_or.ensures ∙ sym e ∙ q

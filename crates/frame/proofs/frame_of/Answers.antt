@@ -8,6 +8,6 @@ pub returns : goal.returns
 unfolding frame_of
 returns c =
     let f : SFits w8 c.args.f.now.tip0 = search rules in let g : SFits w8 c.args.f.now.tip1 = search rules in
-    let x = simp back at c.tip_slot-a.ensures.value in let y = simp back at c.tip_slot-b.ensures.value in
-    rw (c.sources_of-sources.ensures, c.tip_of.ensures, c.flip_mask.ensures, c.all_abs_diffs.ensures, c.all_diffs-pocdiff.ensures, c.all_signs-ref_sign.ensures, x, y, c.requires)
+    let k = c.of-c.result in
+    rw (c.sources_of-sources.ensures, c.tip_of.ensures, c.flip_mask.ensures, c.all_abs_diffs.ensures, k.diffs, k.signs, c.of-c.ensures, c.tip_pair-pair.ensures.first, c.tip_pair-pair.ensures.second, c.requires)
     (simp back)
