@@ -31,6 +31,7 @@ fn slot_of(hints: &[OrderHint; 7], x: OrderHint) -> i8
 pub fn ratio(a: i32, b: i32) -> i32
     ensures { result ≡ ratio_z a b }
 {
+    // Of magnitudes, as the definition: by `clamp` and `signum` the sign would come of two factors.
     // `as` here and below, as no From goes from u32 to usize or i32: 31 at most, and 507,904 at most.
     let size = a.unsigned_abs().min(31)
         * u32::from(mv::div_mult(b.unsigned_abs().min(31) as usize));
@@ -45,8 +46,8 @@ pub fn ratio(a: i32, b: i32) -> i32
 fn near(d: i32) -> i8
     ensures { result ≡ near_z d }
 {
-    // `as`, as no From goes from i32 to i8.
-    if d < -31 || 31 < d { 0 } else { d as i8 }
+    // `as`, as no From goes from i32 to i8: d is 31 at most where it is kept.
+    if (-31..=31).contains(&d) { d as i8 } else { 0 }
 }
 
 // From each reference that was saved with a slot to the slot, whose hint is a.
@@ -64,6 +65,7 @@ fn ref2idx_of(hints: &[OrderHint; 7], saved: &Saved) -> [i8; 7]
 }
 
 // The part of the difference d that a factor is for: what is left after cur, or cur.
+// Told by a switch, and no closure: its contract has the bounds under which neither overflows.
 fn part(cur: i32, d: i32, rest: bool) -> i32
     requires current { nat_abs cur ≤ 31 }
     requires difference { nat_abs d ≤ 128 }

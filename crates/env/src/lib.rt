@@ -12,7 +12,7 @@ pub fn poc_diff(order_hint_n_bits: u32, poc0: OrderHint, poc1: OrderHint) -> i32
     ensures { result ≡ hint_diff order_hint_n_bits poc0 poc1 }
 {
     let m: u32 = 1 << order_hint_n_bits;
-    // `as` below, as no From goes from u32 to i32: both are 256 at most.
+    // `as` below, as no From goes from u32 to i32: both are 256 at most. Unsigned up to there, so that the remainder has no sign to be looked at.
     let d = u32::from(poc0.0.wrapping_sub(poc1.0)) % m;
     if d + d < m {
         d as i32

@@ -1,3 +1,4 @@
 pub mod Laws
+pub mod Mask
 pub mod Range
 pub mod Theorems

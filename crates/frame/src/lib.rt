@@ -8,7 +8,7 @@ ghost use Rattle.frame.specs.Frame.{leading, started, tip_pick, tip_add, with_ti
 
 use entry::Source;
 use levels::{Refusal, Slot};
-use picks::{FrameHints, Hints, MfmvRef, Picks, Pocs};
+use picks::{FrameHints, Hints, MfmvRef, Picks, Pocs, Sorted};
 use std::array;
 
 /// The sources, and the mask of the slots that are used.
@@ -40,6 +40,7 @@ impl Tip {
 }
 
 /// The values of the sequence's and the frame's header that a setup is made of. Any numbers.
+// Numbers as a header states them, and no enums or Options: refusals 5, 6 and 8 are for those that mean nothing.
 #[derive(Clone, Copy)]
 pub struct Header {
     pub width: u32,
@@ -196,12 +197,13 @@ fn pick_sources(c: &Compared, present: &[bool; 7], tip: bool, pair: TipPair) -> 
     let n = pocs.n_refs;
     let order = rank::sort_slots(&c.diff, n);
     let first = first_later(&c.sign, &order[..n]);
+    let sorted = Sorted { order, first };
     let links = refs::links_of(pocs);
     let o = topo::topo_order(&links, n);
     let mut p = start(present, n);
     tip_source(c, tip, &o.place, pair, &mut p);
-    p.pick_neighbours(&c.hints, &order, first);
-    p.pick_nearest(&order, first);
+    p.pick_neighbours(&c.hints, &sorted);
+    p.pick_nearest(&sorted);
     p.pick_rest(&c.diff, &o.list[..o.count]);
     p
 }
@@ -236,13 +238,12 @@ fn used_bit(taken: &[bool; 14], k: usize) -> u8
 fn used_mask(taken: &[bool; 14]) -> u8
     ensures { result ≡ mask_of taken.now }
 {
-    used_bit(taken, 0)
-        + 2 * used_bit(taken, 1)
-        + 4 * used_bit(taken, 2)
-        + 8 * used_bit(taken, 3)
-        + 16 * used_bit(taken, 4)
-        + 32 * used_bit(taken, 5)
-        + 64 * used_bit(taken, 6)
+    // By number: a slot's number is its bit's place.
+    let mut mask = 0;
+    for k in 0..7 {
+        mask += used_bit(taken, k) << k;
+    }
+    mask
 }
 
 // The source at place i, zeros past those that are picked.
@@ -360,8 +361,7 @@ fn looks_at_tip(f: &Header) -> bool
 fn not_in_use(f: &Header, t: i8) -> bool
     ensures { result ≡ not_in_use f.now t }
 {
-    // `as`, as no From goes from i8 to usize: t is not below 0 there.
-    t < 0 || f.pocs.n_refs <= t as usize
+    !usize::try_from(t).is_ok_and(|slot| slot < f.pocs.n_refs)
 }
 
 /// Is a width or a height not 1 to 65,536?

@@ -8,6 +8,8 @@ ghost use Rattle.levels.specs.Slots.{slot};
 use std::fmt;
 
 /// A motion vector, y first. It is empty where y is `INVALID_MV`; (0, 0) is a still cell.
+// No type of vectors that are in range, or not empty: the store's lists hold any numbers, and the definitions make vectors, so that each would carry a proof. Functions
+// ask for it (`past_range`, `is_empty`), and a read that may find an empty one answers an Option (`Pairs::cell`, `Field::cell`).
 #[repr(C)]
 #[derive(Clone, Copy, PartialEq, Eq, Debug)]
 pub struct Mv {
@@ -41,7 +43,7 @@ impl QMv {
 /// A reference slot, 0 to 6: who takes one tests it. It is no order hint.
 // No type of 0 to 6 alone (`TryFrom<u8>`, a ghost field): it stands in the records that C hands over, in which it may be any byte, and a load tests those.
 // Nor a second type of tested slots beside it: the definitions make slots and lists of slots, and would carry a proof for each, and each picked slot goes into a
-// record of C's again. So functions ask for `s.0 < 7`.
+// record of C's again. So functions ask for `s.0 < 7`, and those that take an index for `n < 7`.
 #[repr(C)]
 #[derive(Clone, Copy, PartialEq, Eq, Debug)]
 pub struct Slot(pub u8);

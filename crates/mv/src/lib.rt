@@ -41,6 +41,7 @@ pub fn projection_factor(num: i32, den: i32) -> i32
 
 /// v times sf / 16384, rounded to nearest, halves away from zero, then clipped. Any v: the product
 /// has 64 bits.
+// No type of factors in range: they stand in C's record, in which they may be any number, and a load tests those.
 pub fn scale_comp(v: i32, sf: i32, min: i32, max: i32) -> i32
     requires { Within 507904 sf }
     ensures { result ≡ scaled_by sf «min» «max» v }
@@ -163,6 +164,7 @@ pub struct Sum {
 
 /// sum times idiv / 2^bits, rounded to nearest, halves away from zero: the average of n cells, where
 /// idiv is the whole part of 2^bits / n. The n cells bound the sum, so that the average has 32 bits.
+// One component's sum and the count, here and in the averages below, and no `Sum`, which has both components: an average of one is asked for, too.
 pub fn average_of(sum: i64, n: usize, idiv: u32, bits: u32) -> i32
     requires { Averaged n sum idiv bits }
     ensures { result ≡ round_div (2 ^ bits) (sum *ℤ pos idiv) }
@@ -268,6 +270,7 @@ impl Sum {
     }
 
     /// The mean of smoothen, empty where no cell was added.
+    // No Option: the mean goes into the field, in which the empty vector is none.
     pub fn smoothed(self) -> Mv
         requires fair { Fair self }
         requires few { self.n ≤ 5 }
@@ -302,7 +305,7 @@ fn mean_of_two(a: i32, b: i32) -> i32
     gap_average(i64::from(a) + i64::from(b), 2)
 }
 
-// a, or v where a is empty.
+// a, or v where a is empty: a choice of one value, as in `kept`. No `unwrap_or` of an Option: that would be made of the same test, to be taken apart at once.
 fn or_else(a: Mv, v: Mv) -> Mv
     ensures { result ≡ cond (is_empty a) v a }
 {

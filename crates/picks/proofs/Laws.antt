@@ -58,17 +58,6 @@ take_slots (x ∷ xs) zero v k = omega arith
 take_slots (x ∷ xs) (suc c) v zero = v 0
 take_slots (x ∷ xs) (suc c) v (suc k) = take_slots xs c (λ i. v (suc i)) k
 
-later_go : (xs : List Slot) (c i : ℕ) (t : Bool) → leb c i ≡ t → cond t None (Some (get_or (take c xs) i (slot 0))) ≡ cond t None (Some (get_or xs i (slot 0)))
-later_go xs c i true e = refl
-later_go xs c i false e = ap Some (get_or-take c xs i (slot 0) (omega (arith, leb-false c i e)))
-
--- the later slots are among the first c
-pub later_take : (xs : List Slot) (f c n : ℕ) → c ≤ length xs → nth_later (take c xs) f (length (take c xs)) n ≡ nth_later xs f c n
-unfolding nth_later
-later_take xs f c n h =
-    let m : length (take c xs) ≡ c = length-take-le c xs h in
-    rw m (later_go xs c (f + n) (leb c (f + n)) refl)
-
 -- the dependency order from its end, of its first n slots alone
 pub rest_take : (d : List ℤ) (xs : List Slot) (n : ℕ) (p : Picks) → n ≤ length xs → rest d (take n xs) (length (take n xs)) p ≡ rest d xs n p
 unfolding rest span

@@ -125,7 +125,7 @@ impl Hints {
     }
 }
 
-// A slot, and the hints that it is looked up in.
+// A slot, and the hints that it is looked up in. `late` says on which side of it a reference is looked for: later, or with late off earlier.
 #[derive(Clone, Copy)]
 struct SlotHints<'a> {
     hints: &'a Hints,
@@ -134,7 +134,7 @@ struct SlotHints<'a> {
 }
 
 impl<'a> SlotHints<'a> {
-    // From the slot's reference n to the hint a, 0 where the slot has no references.
+    // From the slot's reference n to the hint a, 0 where the slot has no references: no Option, as 0 lies on neither side, as none does.
     #[tactic(auto, unfolding(crate::specs::Hints::saved_diff_of))]
     fn saved_diff(&self, a: OrderHint, n: usize) -> i32
         requires { n < 7 }
@@ -156,11 +156,14 @@ impl<'a> SlotHints<'a> {
     {
         let d = self.saved_diff(self.hints.hint(self.slot), n);
         let e = self.saved_diff(self.hints.pocs.poc, n);
-        let m = d.unsigned_abs();
-        if same_side(d, e, late) && m < b { m } else { b }
+        if same_side(d, e, late) {
+            b.min(d.unsigned_abs())
+        } else {
+            b
+        }
     }
 
-    // abs_closest_ref: the least such distance, 255 if there is none.
+    // abs_closest_ref: the least such distance, 255 if there is none. No Option: two are compared, and none is farther than any, where None comes before each Some.
     #[tactic(auto, using(loops::proofs::Turns::span_turn, loops::proofs::Turns::span_end), unfolding(crate::specs::Hints::closest))]
     fn abs_closest_ref(&self, late: bool) -> u32
         ensures { result ≡ closest self.now.hints.now.pocs self.now.slot.0 late }
@@ -216,6 +219,7 @@ pub struct MfmvRef {
 pub struct Picks {
     pub list: [MfmvRef; 4],
     pub count: usize,
+    // One list: two indices, in lists of two, would be made of the same slot and direction.
     pub taken: [bool; 14],
 }
 
@@ -268,32 +272,27 @@ impl Picks {
         }
     }
 
-    /// Two rounds of the neighbours of the frame in the sorted order, of which `first` slots are earlier: up to three sources.
+    /// Two rounds of the neighbours of the frame in the sorted order: up to three sources.
     #[tactic(auto, using(loops::proofs::Turns::span_turn, loops::proofs::Turns::span_end), unfolding(crate::specs::Picks::neighbours))]
-    pub fn pick_neighbours(&mut self, h: &FrameHints, order: &[Slot; 7], first: usize)
-        requires first { first ≤ 7 }
-        requires slots { Slots order.now }
-        ensures { self.new ≡ neighbours h.now.hints.pocs order.now first self.old }
+    pub fn pick_neighbours(&mut self, h: &FrameHints, sorted: &Sorted)
+        ensures { self.new ≡ neighbours h.now.hints.pocs sorted.now.order sorted.now.first self.old }
     {
         let hints = &h.hints;
-        let in_use = &order[..hints.pocs.n_refs];
         // By number: a round's number says which neighbours it takes.
         for n in 0..2 {
-            let a = hints.with_side(nth_earlier(order, first, n + 1), true);
-            let b = hints.with_side(nth_later(in_use, first, n), false);
+            let a = hints.with_side(sorted.nth_earlier(n + 1), true);
+            let b = hints.with_side(sorted.nth_later(hints.pocs.n_refs, n), false);
             self.in_turn(hints, a, b);
         }
     }
 
     /// The two nearest earlier slots: up to three sources.
     #[tactic(auto, unfolding(crate::specs::Picks::nearest))]
-    pub fn pick_nearest(&mut self, order: &[Slot; 7], first: usize)
-        requires first { first ≤ 7 }
-        requires slots { Slots order.now }
-        ensures { self.new ≡ nearest order.now first self.old }
+    pub fn pick_nearest(&mut self, sorted: &Sorted)
+        ensures { self.new ≡ nearest sorted.now.order sorted.now.first self.old }
     {
-        self.offer(3, nth_earlier(order, first, 1), 0);
-        self.offer(3, nth_earlier(order, first, 2), 0);
+        self.offer(3, sorted.nth_earlier(1), 0);
+        self.offer(3, sorted.nth_earlier(2), 0);
     }
 
     // A slot's two directions, the one towards the frame first.
@@ -319,25 +318,35 @@ impl Picks {
     }
 }
 
-// The k-th slot before the first later one.
-#[tactic(auto, unfolding(crate::specs::Picks::nth_earlier))]
-fn nth_earlier(order: &[Slot; 7], first: usize, k: usize) -> Option<Slot>
-    requires first { first ≤ 7 }
-    requires counted { 0 < k }
-    ensures value { result ≡ nth_earlier order.now first k }
-    ensures slot { Slots order.now → Valid result }
-{
-    Some(order[first.checked_sub(k)?])
+/// The sorted slots: the rest of the seven is zero.
+#[derive(Clone, Copy)]
+pub struct Sorted {
+    pub order: [Slot; 7],
+    /// How many of them are earlier than the frame, the first ones.
+    pub first: usize,
+    ghost few: { first ≤ 7 },
+    ghost slots: { Slots order },
 }
 
-// The n-th slot from the first later one on, counted from 0.
-#[tactic(auto, unfolding(crate::specs::Picks::nth_later))]
-fn nth_later(order: &[Slot], first: usize, n: usize) -> Option<Slot>
-    requires first { first ≤ 7 }
-    requires counted { n ≤ 7 }
-    requires slots { Slots order.now }
-    ensures value { result ≡ nth_later order.now first (length order.now) n }
-    ensures slot { Valid result }
-{
-    order.get(first + n).copied()
+impl Sorted {
+    // The k-th slot before the first later one.
+    #[tactic(auto, unfolding(crate::specs::Picks::nth_earlier))]
+    fn nth_earlier(&self, k: usize) -> Option<Slot>
+        requires { 0 < k }
+        ensures value { result ≡ nth_earlier self.now.order self.now.first k }
+        ensures slot { Valid result }
+    {
+        Some(self.order[self.first.checked_sub(k)?])
+    }
+
+    // The n-th slot from the first later one on, of `count` in use, counted from 0.
+    #[tactic(auto, unfolding(crate::specs::Picks::nth_later))]
+    fn nth_later(&self, count: usize, n: usize) -> Option<Slot>
+        requires count { count ≤ 7 }
+        requires counted { n ≤ 7 }
+        ensures value { result ≡ nth_later self.now.order self.now.first count n }
+        ensures slot { Valid result }
+    {
+        self.order[..count].get(self.first + n).copied()
+    }
 }

@@ -38,6 +38,7 @@ pub fn abs_diff(h: &Hints, i: usize) -> u8
 }
 
 /// The signs of the slots in use; the others are off.
+// This, all_diffs, all_abs_diffs and links_from are four: each is one expression, and a common function would take it as a closure, whose clauses each would state.
 pub fn all_signs(h: &Hints) -> [bool; 7]
     ensures { result ≡ signs h.now.pocs }
 {
@@ -65,6 +66,7 @@ pub fn all_abs_diffs(h: &Hints) -> [u8; 7]
 }
 
 /// The slot in use that reference n of the hints saved with a slot is: refref2curref_idx.
+// It and the links ask for `n_refs ≤ 7`, and take no `FrameHints`, which asks for hints of at most 8 bits, too: links are found of any.
 #[tactic(auto, unfolding(crate::specs::Refs::link_in))]
 pub fn link_of(pocs: &Pocs, saved: &Saved, n: usize) -> Option<Slot>
     requires slots { pocs.now.n_refs ≤ 7 }

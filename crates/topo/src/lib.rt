@@ -10,7 +10,7 @@ use levels::Slot;
 #[derive(Clone, Copy)]
 pub struct Order {
     pub list: [Slot; 7],
-    // 7: not entered. No Option: the TIP source compares places as numbers, and 7 stands past all of them.
+    // 7: not entered. No Option: the TIP source compares places, and a slot that is not entered stands past all others, where None comes before each Some.
     pub place: [u8; 7],
     // Beside the list, and no vector of the slots: what is not yet entered is zero, as in refmvs.rs, and the state is copied.
     pub count: usize,
@@ -22,6 +22,7 @@ pub fn topo_insert(o: Order, links: &[[Option<Slot>; 7]; 7], slot: Slot) -> Orde
     requires room { o.count + free o.place ≤ 7 }
     ensures { result ≡ enter 7 links.now slot.0 o }
 {
+    // By value, as the definition makes one order of another.
     let at = slot.index();
     let mut st = o;
     let p = st.place[at];

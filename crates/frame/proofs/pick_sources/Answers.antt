@@ -29,11 +29,13 @@ tip_source-requires c =
     let e : c.start-p.result.count ≡ 0 = rw c.start-p.ensures (started_none c.args.present.now c.args.c.now.hints.hints.pocs.n_refs) in
     omega arith
 
-pub pick_neighbours-requires-clause-slots : goal.pick_neighbours-requires-clause-slots
-pick_neighbours-requires-clause-slots c = ord (goal.at.pick_neighbours-requires-clause-slots c).After-sort_slots-order
-
-pub pick_nearest-requires-clause-slots : goal.pick_nearest-requires-clause-slots
-pick_nearest-requires-clause-slots c = ord (goal.at.pick_nearest-requires-clause-slots c).After-sort_slots-order
+pub invariant_of-sorted : goal.invariant_of-sorted
+invariant_of-sorted c =
+    let h = c.args.c.now.hints in let n = h.hints.pocs.n_refs in let od = c.sort_slots-order.result in
+    let l : length od ≡ 7 = search rules in
+    let m = length-take-le n od (omega (arith, l, h.few_slots)) in
+    let k : c.first_later-first.result ≤ 7 = omega (arith, m, h.few_slots, c.first_later-first.ensures.within) in
+    record { few = k; slots = ord (goal.at.invariant_of-sorted c).After-sort_slots-order }
 
 pub shared_ref_as_front-pick_rest : goal.shared_ref_as_front-pick_rest
 shared_ref_as_front-pick_rest c = room (goal.at.shared_ref_as_front-pick_rest c).After-topo_order-o
