@@ -9,7 +9,6 @@ ghost use Rattle.c_setup.specs.Setup.{header_of, frame_of, switches_of, given_by
 use frame::{Frame, Header, Sources, Tip};
 use levels::{OrderHint, Refusal};
 use picks::{Pocs, Saved};
-use std::array;
 
 /// A header as C hands it over: switches are bytes, on where not 0.
 #[repr(C)]
@@ -82,7 +81,7 @@ pub struct CFrame {
 fn switches(bytes: [u8; 7]) -> [bool; 7]
     ensures { result ≡ switches_of bytes }
 {
-    array::from_fn(|i| bytes[i] != 0)
+    bytes.map(|byte| byte != 0)
 }
 
 /// The header that C hands over, its switches read.

@@ -6,7 +6,6 @@ ghost use Rattle.entry.specs.Entry.{found, found_slot, ratio_z, near_z, ref2ref_
 
 use levels::{OrderHint, Slot};
 use picks::{Hints, MfmvRef, Saved};
-use std::array;
 
 /// The first of the first n slots with the hint x.
 // The seven and how many count, and no slice of those (tried): of a list in a lent struct, as `Pocs` is, the check knows no length.
@@ -54,14 +53,14 @@ fn near(d: i32) -> i8
 fn ref2ref_of(h: &Hints, a: OrderHint, saved: &Saved) -> [i8; 7]
     ensures { result ≡ ref2ref_of h.now.pocs.nbits a saved.now.ref_poc }
 {
-    array::from_fn(|m| near(h.diff(a, saved.ref_poc[m])))
+    saved.ref_poc.map(|hint| near(h.diff(a, hint)))
 }
 
 // The slot with the hint of each of those references.
 fn ref2idx_of(hints: &[OrderHint; 7], saved: &Saved) -> [i8; 7]
     ensures { result ≡ ref2idx_of hints.now saved.now.ref_poc }
 {
-    array::from_fn(|m| slot_of(hints, saved.ref_poc[m]))
+    saved.ref_poc.map(|hint| slot_of(hints, hint))
 }
 
 // The part of the difference d that a factor is for: what is left after cur, or cur.
@@ -79,8 +78,8 @@ fn factors(cur: i32, ref2ref: &[i8; 7], rest: bool) -> [i32; 7]
     requires { nat_abs cur ≤ 31 }
     ensures { result ≡ factors_of cur ref2ref.now rest }
 {
-    array::from_fn(|m| {
-        let d = i32::from(ref2ref[m]);
+    ref2ref.map(|d| {
+        let d = i32::from(d);
         ratio(part(cur, d, rest), d)
     })
 }

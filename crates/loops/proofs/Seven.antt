@@ -2,7 +2,7 @@
 use Rattle.std.proofs.Common.{length, ◌≡◌, refl, sym, ap, ◌∙◌, List, ℕ, zero, suc, ◌+◌, ◌≤◌, ◌<◌, arith, get_or, set, replicate}
 use Rattle.std.proofs.lemmas.List.{ext_get_or}
 use Rattle.std.specs.Fn.{Called, Mut}
-use Rattle.std.specs.Array.{IsFromFnResult, IsFromFnResultFrom}
+use Rattle.std.specs.Array.{IsFromFnResult, IsFromFnResultFrom, IsMapOf, MapsFrom}
 use Rattle.loops.specs.Over.{over, span}
 use Rattle.loops.specs.Seven.{seven, first_seven, storing}
 use Rattle.loops.proofs.Turns.{turned, ended}
@@ -73,3 +73,19 @@ seven_is f d xs e h = ext_get_or d xs (seven f) e (λ i l. let b : i < 7 = omega
 pub made_is : {F B : Type 0} (g : Mut F (ℕ × Unit {0}) B) (f : F) (h : ℕ → B) → ((i : ℕ) (y : B) (q : F) → i < 7 → Called g f (i, tt) y q → (q ≡ f) × (y ≡ h i))
     → (ys : List B) → IsFromFnResult g f ys 7 → ys ≡ seven h
 made_is g f h is ys r = seven_is h (h 0) ys r.long (made g (λ i y. y ≡ h i) f 7 is ys r (h 0))
+
+-- an array that `map` made of xs by a function which, at the element of each number below n, answers what P says, and which a call leaves as it was
+module _ {F A B : Type 0} (g : Mut F (A × Unit {0}) B) (P : ℕ → B → Type 0) (f : F) (xs : List A) (n : ℕ)
+    (is : (i : ℕ) (x : A) (y : B) (q : F) → i < n → ((d : A) → get_or xs i d ≡ x) → Called g f (x, tt) y q → (q ≡ f) × P i y) where
+  mapped_from : (ys : List B) (d : B) (m i : ℕ) (p : F) → p ≡ f → i + m ≡ n → MapsFrom g p xs ys i m → (j k : ℕ) → i + j ≡ k → j < m → P k (get_or ys k d)
+  mapped_from ys d zero i p e s r j k a l = absurd (omega arith)
+  mapped_from ys d (suc m) i p e s (q, x, y, ex, ey, c, rest) zero k a l = let b : i ≡ k = omega arith in rw (← b, ey.1 d) (is i x y q (omega arith) ex.1 (rw e at c)).1
+  mapped_from ys d (suc m) i p e s (q, x, y, ex, ey, c, rest) (suc j) k a l = mapped_from ys d m (i + 1) q (is i x y q (omega arith) ex.1 (rw e at c)).0 (omega arith) rest j k (omega arith) (omega arith)
+
+  mapped : (ys : List B) → IsMapOf g f xs ys n → (d : B) (i : ℕ) → i < n → P i (get_or ys i d)
+  mapped ys r d i l = mapped_from ys d n 0 f refl (omega arith) r.each i i (omega arith) l
+
+-- an array of seven that `map` made by a function which answers h of an element's number
+pub mapped_is : {F A B : Type 0} (g : Mut F (A × Unit {0}) B) (f : F) (h : ℕ → B) (xs : List A)
+    → ((i : ℕ) (x : A) (y : B) (q : F) → i < 7 → ((d : A) → get_or xs i d ≡ x) → Called g f (x, tt) y q → (q ≡ f) × (y ≡ h i)) → (ys : List B) → IsMapOf g f xs ys 7 → ys ≡ seven h
+mapped_is g f h xs is ys r = seven_is h (h 0) ys r.long (mapped g (λ i y. y ≡ h i) f xs 7 is ys r (h 0))
