@@ -99,6 +99,7 @@ pub fn empty_field(field: &mut Field<'_>, t: &Tile)
     ensures reference { field.new.reference.now ≡ field.old.reference.now }
     ensures stored { (s : Store) → stored s field.new ≡ run (owns (geometry t.now)) (empty_field (geometry t.now)) (stored s field.old) }
 {
+    // By its number: a row's place is made of it.
     for y in t.top..t.bottom {
         let row = t.field_at(y, 0);
         field.empty_cells(row + t.left, row + t.right);
