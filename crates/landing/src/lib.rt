@@ -108,6 +108,7 @@ pub fn scaled(v: Mv, sf: i32) -> Mv
 }
 
 // Does column x1 lie in the window of column x's block, not cut at the frame?
+// Not one function with `near_col` of tile, as the line there says: that window is cut.
 #[tactic(auto, using(tile::proofs::Places::start_low), unfolding(project::specs::Project::near_source))]
 fn near_source(t: &Tile, x: usize, x1: usize) -> bool
     requires { x < t.now.wide }
