@@ -260,7 +260,7 @@ pub extern "C" fn pass_project_source(
         planes,
         &t,
         traj,
-        &[present; 7],
+        present,
         &s,
     );
 }

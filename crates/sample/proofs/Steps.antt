@@ -1,5 +1,5 @@
 -- The ways through the programs of a saved block, as code has them: the numbers that it computed are given by their equations, and so is what its callee ensures. Assumes nothing.
-use Rattle.std.proofs.Common.{◌≡◌, ap, ◌∙◌, Bool, true, false, not, ◌&&◌, List, ℕ, ℤ, negsuc, neg_ℤ, nat_abs, None, Option, Some}
+use Rattle.std.proofs.Common.{◌≡◌, refl, ap, ◌∙◌, Bool, true, false, not, ◌&&◌, List, ℕ, ℤ, negsuc, neg_ℤ, nat_abs, None, Option, Some}
 use Rattle.intops.specs.Choice.{eq_z}
 use Rattle.levels.specs.declared.Mv.{Mv}
 use Rattle.entry.specs.declared.Source.{Source}
@@ -13,10 +13,11 @@ use Rattle.tile.specs.Owner.{owns}
 use Rattle.field.specs.declared.Field.{Field}
 use Rattle.field.specs.Lent.{store_of}
 use Rattle.traj.specs.Traj.{check_traj_intersect}
-use Rattle.project.specs.Project.{saved_at, saved_ref, saved_mv, ref2idx, to_source, right_side, lands, put_mv, project_mv, sample}
+use Rattle.project.specs.Project.{saved_at, saved_ref, saved_mv, ref2idx, to_source, to_reference, right_side, lands, takes, put_trajs, put_mv, project_mv, sample}
 use Rattle.saved.specs.declared.Block.{Block}
 use Rattle.saved.specs.Code.{saved_of}
 use Rattle.saved.proofs.Fine.{none_read, block_read}
+use Rattle.sample.specs.Code.{SameNumbers}
 
 -- a saved vector of (y, x), on two stores
 module _ (t : Geometry) (traj : Bool) (v : Mv) (y x : ℕ) (s : Source) (b : ℕ) (u : Store) where
@@ -50,3 +51,18 @@ module _ (t : Geometry) (traj : Bool) (planes : List ℤ) (s : Source) (y x : �
   sample_on b h f ts ms ts' ms' p u' q =
       let r = block_read (saved_ref planes (saved_at t s.reference.0 y x) s.dir) (saved_mv planes (saved_at t s.reference.0 y x) s.dir) b h in
       q ∙ ap (run (owns t) (project_mv t traj s b.reference b.mv y x)) (p (store_of f ts ms)) ∙ rw (r.0, r.1, r.2)
+
+-- a sampled block's program doesn't read the source's distance from the frame
+abbrev at_distance : Source → ℤ → Source
+at_distance s d = record { reference = record { 0 = s.reference.0 }; tgt = s.tgt; dir = s.dir; ref2cur = d; ref2ref = s.ref2ref; ref2idx = s.ref2idx; ref2sf0 = s.ref2sf0; ref2sf1 = s.ref2sf1 }
+
+same_source : {u s : Source} → SameNumbers u s → u ≡ at_distance s u.ref2cur
+same_source h = rw (← h.slot, ← h.tgt, ← h.dir, ← h.ref2ref, ← h.ref2idx, ← h.ref2sf0, ← h.ref2sf1)
+
+module _ (t : Geometry) (traj : Bool) (planes : List ℤ) (y x : ℕ) where
+  any_distance : (s : Source) (d : ℤ) → sample t traj planes (at_distance s d) y x ≡ sample t traj planes s y x
+  unfolding sample project_mv put_mv put_trajs to_source to_reference right_side takes
+  any_distance s d = refl
+
+  pub same_sample : {u s : Source} → SameNumbers u s → sample t traj planes u y x ≡ sample t traj planes s y x
+  same_sample {u} {s} h = ap (λ (v : Source). sample t traj planes v y x) (same_source h) ∙ any_distance s u.ref2cur

@@ -5,6 +5,16 @@ use Rattle.entry.specs.declared.Source.{Source}
 use Rattle.project.specs.Project.{ref2idx}
 use Rattle.project.specs.Tested.{within}
 
+-- sources that differ in their distance from the frame at most: slot, target and direction are the same, and the lists of what each says of its references
+pub record SameNumbers (s u : Source) : Type 0 where
+  pub slot : s.reference.0 ≡ u.reference.0
+  pub tgt : s.tgt ≡ u.tgt
+  pub dir : s.dir ≡ u.dir
+  pub ref2ref : s.ref2ref ≡ u.ref2ref
+  pub ref2idx : s.ref2idx ≡ u.ref2idx
+  pub ref2sf0 : s.ref2sf0 ≡ u.ref2sf0
+  pub ref2sf1 : s.ref2sf1 ≡ u.ref2sf1
+
 -- a source's slot and direction, and what it says of each reference, are in range (test 9)
 pub record IsReadable (s : Source) : Type 0 where
   pub slot : s.reference.0 < 7

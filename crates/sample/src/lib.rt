@@ -5,6 +5,7 @@ ghost use Rattle.std.specs.Prelude.{◌≡◌, true, false, not, ◌&&◌, List,
 ghost use Rattle.intops.specs.Bounds.{Within};
 ghost use Rattle.intops.specs.Choice.{eq_z};
 ghost use Rattle.mv.specs.Projection.{past_range};
+ghost use Rattle.entry.specs.declared.Source.{Source};
 ghost use Rattle.store.specs.Lent.{IsSamePairs, stored_trajs};
 ghost use Rattle.store.specs.Store.{Store};
 ghost use Rattle.store.specs.Program.{run, when};
@@ -17,7 +18,7 @@ ghost use Rattle.project.specs.Project.{saved_at, saved_ref, saved_mv, ref2idx, 
 ghost use Rattle.project.specs.Project as spec;
 ghost use Rattle.project.specs.Tested.{within, block_fine};
 ghost use Rattle.saved.specs.Code.{part_at};
-ghost use Rattle.sample.specs.Code.{IsReadable};
+ghost use Rattle.sample.specs.Code.{IsReadable, SameNumbers};
 
 use entry::Source;
 use field::Field;
@@ -98,7 +99,7 @@ fn project_mv(
 }
 
 /// A sampled block of source `s` at `at`. `part` is the plane of the source's slot from the tile's
-/// first row on.
+/// first row on. The source's distance from the frame is not read.
 pub fn sample(
     field: &mut Field<'_>,
     trajectories: &mut Pairs<'_, i32>,
@@ -121,9 +122,9 @@ pub fn sample(
     ensures same_field { IsSameField field.new field.old }
     ensures same_trajectories { IsSamePairs trajectories.new trajectories.old }
     ensures same_maps { IsSamePairs maps.new maps.old }
-    ensures stored { (planes : List ℤ) → drop (saved_at (geometry t.now) s.now.reference.0 t.now.top 0) planes ≡ part.now
+    ensures stored { (planes : List ℤ) (u : Source) → drop (saved_at (geometry t.now) s.now.reference.0 t.now.top 0) planes ≡ part.now → SameNumbers u s.now
         → store_of field.new trajectories.new maps.new
-        ≡ run (owns (geometry t.now)) (spec.sample (geometry t.now) traj planes s.now at.y at.x)
+        ≡ run (owns (geometry t.now)) (spec.sample (geometry t.now) traj planes u at.y at.x)
         (store_of field.old trajectories.old maps.old) }
 {
     let i = saved::saved_at(t, at.y, at.x);

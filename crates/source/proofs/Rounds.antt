@@ -21,7 +21,7 @@ use Rattle.field.proofs.Borrows.{same_field, same_after}
 use Rattle.project.specs.Project.{sample, project_source}
 use Rattle.project.specs.Tested.{source_in_range}
 use Rattle.project.proofs.Tested.{entry_parts, slots_low}
-use Rattle.sample.specs.Code.{IsReadable}
+use Rattle.sample.specs.Code.{IsReadable, SameNumbers}
 
 -- the parts of a load that are lent
 pub record Parts : Type 0 where
@@ -86,6 +86,9 @@ pub readable : (s : Source) → source_in_range s ≡ true → IsReadable s
 readable s h =
     let q = slots_low s h in
     record { slot = q.reference; dir = q.dir; idx = λ b l. (entry_parts s h b l).0; first = λ b l. (entry_parts s h b l).1; second = λ b l. (entry_parts s h b l).2 }
+
+pub same_numbers : (s : Source) → SameNumbers s s
+same_numbers s = record { slot = refl; tgt = refl; dir = refl; ref2ref = refl; ref2idx = refl; ref2sf0 = refl; ref2sf1 = refl }
 
 -- a source, on two stores
 module _ (t : Geometry) (traj : Bool) (held : List Bool) (planes : List ℤ) (s : Source) (u : Store) where

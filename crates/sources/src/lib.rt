@@ -41,11 +41,11 @@ pub fn project_sources(
         ≡ run (owns (geometry t.now)) (project_sources (geometry t.now) c)
         (store_of field.old trajectories.old maps.old) }
 {
-    let present = &setup.rp_ref;
     let sources = &setup.sources;
     // By index (tried: nothing is known of the length of an array of structs in a struct when a part of it is walked).
     for n in 0..sources.n_mfmvs {
         let s = &sources.mfmv[n];
+        let present = setup.rp_ref[s.reference.index()];
         source::project_source(field, trajectories, maps, planes, t, asked.traj, present, s);
     }
 }

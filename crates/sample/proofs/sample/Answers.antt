@@ -4,7 +4,7 @@ use Rattle.tile.specs.Tiles.{geometry}
 use Rattle.project.specs.Project.{saved_at}
 use Rattle.saved.specs.Code.{saved_of}
 use Rattle.saved.proofs.Parts.{block_in, block_same}
-use Rattle.sample.proofs.Steps.{saved_in, sample_off, sample_on}
+use Rattle.sample.proofs.Steps.{saved_in, sample_off, sample_on, same_sample}
 use Rattle.sample.proofs.sample.Goals.{After-block_at}
 use Rattle.sample.proofs.sample.Goals as goal
 
@@ -23,11 +23,13 @@ block_at-requires-clause-inside c =
 pub returns-in_default-clause-stored : goal.returns-in_default-clause-stored
 returns-in_default-clause-stored c =
     let a = c.args in
-    λ planes e. sample_off (geometry a.t.now) a.traj planes a.s.now a.at.y a.at.x (saved_is (goal.at.returns-in_default-clause-stored c).After-block_at planes e ∙ c.in_default.is) _
+    λ planes u e h. rw (same_sample (geometry a.t.now) a.traj planes a.at.y a.at.x h)
+    (sample_off (geometry a.t.now) a.traj planes a.s.now a.at.y a.at.x (saved_is (goal.at.returns-in_default-clause-stored c).After-block_at planes e ∙ c.in_default.is) _)
 
 pub returns-clause-stored : goal.returns-clause-stored
 returns-clause-stored c =
     let a = c.args in
-    λ planes e.
-    sample_on (geometry a.t.now) a.traj planes a.s.now a.at.y a.at.x c.in-Some.block (saved_is (goal.at.returns-clause-stored c).After-block_at planes e ∙ c.in-Some.is) a.field.now a.trajectories.now a.maps.now
-    c.intersect_at.new.trajectories c.intersect_at.new.maps c.intersect_at.ensures.stored _ c.project_mv.ensures.stored
+    λ planes u e h.
+    rw (same_sample (geometry a.t.now) a.traj planes a.at.y a.at.x h)
+    (sample_on (geometry a.t.now) a.traj planes a.s.now a.at.y a.at.x c.in-Some.block (saved_is (goal.at.returns-clause-stored c).After-block_at planes e ∙ c.in-Some.is) a.field.now a.trajectories.now a.maps.now
+    c.intersect_at.new.trajectories c.intersect_at.new.maps c.intersect_at.ensures.stored _ c.project_mv.ensures.stored)

@@ -1,5 +1,5 @@
 -- `source::project_source` meets its contract. Assumes nothing.
-use Rattle.std.proofs.Common.{◌≡◌, sym, ap, ◌∙◌, true, false, ℕ, ◌-◌, ◌≤◌, arith, negsuc, length, drop, length-drop, w8, SFits, rules, List, ◌+◌, ◌*◌, ◌<◌, ℤ, take, get_or}
+use Rattle.std.proofs.Common.{◌≡◌, sym, ap, ◌∙◌, true, false, ℕ, ◌-◌, ◌≤◌, arith, negsuc, length, drop, length-drop, w8, SFits, rules, List, ◌+◌, ◌*◌, ◌<◌, ℤ, take}
 use Rattle.intops.proofs.Signed.{signed!, eq_yes, eq_no}
 use Rattle.intops.specs.Choice.{eq_z}
 use Rattle.tile.specs.Geometry.{Geometry}
@@ -10,7 +10,7 @@ use Rattle.project.specs.Tested.{block_fine, row_fine}
 use Rattle.project.proofs.Owned.{block_fine_lem}
 use Rattle.project.proofs.Tested.{slots_low}
 use Rattle.saved.proofs.Parts.{rest, rows_in, block_same}
-use Rattle.source.proofs.Rounds.{parts, IsDone, rest_turn, rest_ends, readable, no_plane, too_far, source_on}
+use Rattle.source.proofs.Rounds.{parts, IsDone, rest_turn, rest_ends, readable, same_numbers, no_plane, too_far, source_on}
 use Rattle.source.proofs.project_source.Goals.{Else-s, Left-loop-x, else-loop-x-test, then-loop-x-test+else-x-step-end}
 use Rattle.source.proofs.project_source.Goals as goal
 
@@ -33,17 +33,17 @@ low_fits = omega signed!
 near : (c : Else-s) → eq_z c.args.s.now.ref2cur (negsuc 31) ≡ false
 near c = let f : SFits w8 c.args.s.now.ref2cur = search rules in eq_no {w = w8} {b = negsuc 31} f low_fits c.if-s.false
 
-pub returns-then-not-here-clause-stored : goal.returns-then-not-here-clause-stored
-returns-then-not-here-clause-stored c =
-    let a = c.args in no_plane (geometry a.t.now) a.traj a.present.now a.planes.now a.s.now _ (rw c.index-n.ensures at c.if-not-here.true)
+pub returns-then-not-present-clause-stored : goal.returns-then-not-present-clause-stored
+returns-then-not-present-clause-stored c = λ held h.
+    let a = c.args in no_plane (geometry a.t.now) a.traj held a.planes.now a.s.now _ (h ∙ c.if-not-present.true)
 
 pub returns-then-s-clause-stored : goal.returns-then-s-clause-stored
-returns-then-s-clause-stored c =
+returns-then-s-clause-stored c = λ held h.
     let a = c.args in let f : SFits w8 a.s.now.ref2cur = search rules in
-    too_far (geometry a.t.now) a.traj a.present.now a.planes.now a.s.now _ (eq_yes {w = w8} {b = negsuc 31} f low_fits c.if-s.true)
+    too_far (geometry a.t.now) a.traj held a.planes.now a.s.now _ (eq_yes {w = w8} {b = negsuc 31} f low_fits c.if-s.true)
 
-pub bounds-present-n : goal.bounds-present-n
-bounds-present-n c = rw c.index-n.ensures (slots_low c.args.s.now c.requires.source).reference
+pub rows_at-at-requires : goal.rows_at-at-requires
+rows_at-at-requires c = rw c.index-n.ensures (slots_low c.args.s.now c.requires.source).reference
 
 pub slice_bounds-part-start : goal.slice_bounds-part-start
 slice_bounds-part-start c =
@@ -66,8 +66,7 @@ sample-requires-clause-long c =
 pub sample-requires-clause-fine : goal.sample-requires-clause-fine
 sample-requires-clause-fine c =
     let a = c.args in let t = geometry a.t.now in let s = a.s.now in let l = a.planes.now in
-    let there : get_or a.present.now s.reference.0 false ≡ true = rw c.index-n.ensures at c.if-not-here.false in
-    let f : row_fine t l s ≡ true = c.requires.fine (rw (near (goal.at.sample-requires-clause-fine c).Else-s, there)) in
+    let f : row_fine t l s ≡ true = c.requires.fine (rw (near (goal.at.sample-requires-clause-fine c).Else-s, c.if-not-present.false)) in
     let p : c.loop-x.x < t.wide = omega (arith, c.loop-x-test.true, c.min-end.ensures) in
     let u = c.loop-y.invariant in
     block_same t l _ s.reference.0 c.loop-y.y c.loop-x.x u.from (part_is t _ s.reference.0 _ l c.rows_at-at.ensures c.index-n.ensures) block_fine s.dir
@@ -78,7 +77,7 @@ loop-x-preserved c =
     let a = c.args in let t = geometry a.t.now in let e = c.sample.ensures in
     rest_turn t _ _ _ a.t.now.sound c.loop-x.x (parts c.loop-x.field c.loop-x.trajectories c.loop-x.maps) (parts c.loop-y.field c.loop-y.trajectories c.loop-y.maps) c.loop-x.invariant
     (parts c.sample.new.field c.sample.new.trajectories c.sample.new.maps) (omega arith) (record { field = e.same_field; trajectories = e.same_trajectories; maps = e.same_maps })
-    (e.stored a.planes.now (part_is t _ a.s.now.reference.0 _ a.planes.now c.rows_at-at.ensures c.index-n.ensures))
+    (e.stored a.planes.now a.s.now (part_is t _ a.s.now.reference.0 _ a.planes.now c.rows_at-at.ensures c.index-n.ensures) (same_numbers a.s.now))
 
 -- what the row's loop has done, whichever way it ended
 row_done : (c : Left-loop-x) → let t = geometry c.args.t.now in
@@ -92,7 +91,7 @@ row_done c =
       | then-loop-x-test+else-x-step-end w ↦
           let e = w.sample.ensures in let next = parts w.sample.new.field w.sample.new.trajectories w.sample.new.maps in
           let r = rest_turn t _ _ _ k c.loop-x.x now was c.loop-x.invariant next w.loop-x-test.true (record { field = e.same_field; trajectories = e.same_trajectories; maps = e.same_maps })
-          (e.stored a.planes.now (part_is t _ a.s.now.reference.0 _ a.planes.now c.rows_at-at.ensures c.index-n.ensures)) in
+          (e.stored a.planes.now a.s.now (part_is t _ a.s.now.reference.0 _ a.planes.now c.rows_at-at.ensures c.index-n.ensures) (same_numbers a.s.now)) in
           rw (w.field-is, w.trajectories-is, w.maps-is) (rest_ends t _ _ _ k (c.loop-x.x + t.step) next was r (omega arith))
     ]
 
@@ -103,19 +102,17 @@ loop-y-preserved c =
     (parts c.loop-x-test.field c.loop-x-test.trajectories c.loop-x-test.maps) (omega arith) d.same d.stored
 
 pub returns-else-s-clause-stored : goal.returns-else-s-clause-stored
-returns-else-s-clause-stored c =
+returns-else-s-clause-stored c = λ held h.
     let a = c.args in let t = geometry a.t.now in let s = a.s.now in
-    let there : get_or a.present.now s.reference.0 false ≡ true = rw c.index-n.ensures at c.if-not-here.false in
-    source_on t a.traj a.present.now a.planes.now s _ (near (goal.at.returns-else-s-clause-stored c).Else-s) there _ _ c.saturating_sub-from.ensures c.min-end.ensures _
+    source_on t a.traj held a.planes.now s _ (near (goal.at.returns-else-s-clause-stored c).Else-s) (h ∙ c.if-not-present.false) _ _ c.saturating_sub-from.ensures c.min-end.ensures _
     (rest_ends t _ _ _ a.t.now.sound c.loop-y.y (parts c.loop-y.field c.loop-y.trajectories c.loop-y.maps) (parts a.field.now a.trajectories.now a.maps.now) c.loop-y.invariant (omega arith)).stored
 
 -- after the last row by the other way
 pub returns-else-s-2-clause-stored : goal.returns-else-s-2-clause-stored
-returns-else-s-2-clause-stored c =
+returns-else-s-2-clause-stored c = λ held h.
     let a = c.args in let t = geometry a.t.now in let s = a.s.now in let k = a.t.now.sound in
-    let there : get_or a.present.now s.reference.0 false ≡ true = rw c.index-n.ensures at c.if-not-here.false in
     let d = row_done (goal.at.returns-else-s-2-clause-stored c).Left-loop-x in
     let next = parts c.loop-x-test.field c.loop-x-test.trajectories c.loop-x-test.maps in let was = parts a.field.now a.trajectories.now a.maps.now in
     let r = rest_turn t _ _ _ k c.loop-y.y (parts c.loop-y.field c.loop-y.trajectories c.loop-y.maps) was c.loop-y.invariant next c.loop-y-test.true d.same d.stored in
     let e = rest_ends t _ _ _ k (c.loop-y.y + t.step) next was r (omega arith) in
-    source_on t a.traj a.present.now a.planes.now s _ (near (goal.at.returns-else-s-2-clause-stored c).Else-s) there _ _ c.saturating_sub-from.ensures c.min-end.ensures _ e.stored
+    source_on t a.traj held a.planes.now s _ (near (goal.at.returns-else-s-2-clause-stored c).Else-s) (h ∙ c.if-not-present.false) _ _ c.saturating_sub-from.ensures c.min-end.ensures _ e.stored
