@@ -1,7 +1,7 @@
 // The tests that a load begins with, in their order: refusals 9 to 12.
 #![tactic(auto)]
 
-ghost use Rattle.std.specs.Prelude.{◌≡◌, true, cond, ◌&&◌, List, [], ◌+◌, ◌-◌, ◌*◌, ◌/◌, ◌≤◌, ◌<◌, leb, ℤ, pos, negsuc, nat_abs, length, get_or, MatchResult};
+ghost use Rattle.std.specs.Prelude.{◌≡◌, Bool, true, cond, ◌&&◌, List, [], ◌+◌, ◌-◌, ◌*◌, ◌/◌, ◌≤◌, ◌<◌, leb, ℤ, pos, negsuc, nat_abs, length, get_or, MatchResult};
 ghost use Rattle.levels.specs.Answer.{number_of};
 ghost use Rattle.frame.specs.Frame.{no_source};
 ghost use Rattle.store.specs.Store.{Store, pack, vec, with_traj};
@@ -11,7 +11,7 @@ ghost use Rattle.traj.specs.Traj.{traj_in_range};
 ghost use Rattle.field.specs.Lent.{store_of};
 ghost use Rattle.project.specs.Project.{saved_ref, saved_mv};
 ghost use Rattle.project.specs.Tested.{all_below, within, entry_in_range, source_in_range, block_fine};
-ghost use Rattle.load.specs.Asked.{call_of};
+ghost use Rattle.load.specs.Asked.{asked_of, call_of};
 ghost use Rattle.load.specs.Load.{side_of, block_of, edge_of, wide_of, high_of, stride_of, tile_of};
 ghost use Rattle.load.specs.Calls.{setup_in_range, tile_fits, long_enough, contents_fine, answer};
 ghost use Rattle.checks.specs.Answer.{Tests, MakesTile, AnswersCall};
@@ -19,7 +19,7 @@ ghost use Rattle.checks.specs.Code.{AreLengths, PlanesHeld, line_fine, is_fine, 
 
 use entry::Source;
 use field::Field;
-use frame::{Frame, Sources};
+use frame::{Frame, Sources, refused_if};
 use levels::{Mv, Refusal};
 use load::Asked;
 use store::Pairs;
@@ -84,19 +84,15 @@ fn sources_in_range(sources: &Sources) -> bool
 pub fn check_setup(setup: &Frame) -> Result<(), Refusal>
     ensures { Tests (setup_in_range setup.now) Refusal.SetupOutOfRange result }
 {
-    if setup.n_refs <= 7
+    let fine = setup.n_refs <= 7
         && setup.sb128 <= 2
         && setup.tmvp_sample_step != 0
         && setup.tmvp_sample_step <= 2
         && !frame::bad_size(setup.width)
         && !frame::bad_size(setup.height)
         && setup.sources.n_mfmvs <= 4
-        && sources_in_range(&setup.sources)
-    {
-        Ok(())
-    } else {
-        Err(Refusal::SetupOutOfRange)
-    }
+        && sources_in_range(&setup.sources);
+    refused_if(!fine, Refusal::SetupOutOfRange)
 }
 
 /// The side of a superblock in cells (S).
@@ -158,10 +154,10 @@ pub fn stride_of(setup: &Frame) -> usize
     (setup.width as usize).next_multiple_of(256) / 8
 }
 
-/// Test 10: the columns and rows are a tile's. Rows may be any number.
+// The columns and rows are a tile's. Rows may be any number.
 #[tactic(auto, unfolding(load::specs::Calls::tile_fits))]
-pub fn check_tile(setup: &Frame, asked: Asked) -> Result<(), Refusal>
-    ensures { (p : List ℤ) → Tests (tile_fits (call_of setup.now asked p)) Refusal.TileOutOfRange result }
+fn tile_fits(setup: &Frame, asked: Asked) -> bool
+    ensures { (p : List ℤ) → result ≡ tile_fits (call_of setup.now asked p) }
 {
     let side = side_of(setup);
     let wide = wide_of(setup);
@@ -174,18 +170,20 @@ pub fn check_tile(setup: &Frame, asked: Asked) -> Result<(), Refusal>
         ..
     } = asked;
     // The rows' end is worked out only where they begin in the frame.
-    if col_start < col_end
+    col_start < col_end
         && col_end <= wide
         && col_start % side == 0
         && (col_end % side == 0 || col_end == wide)
         && row_start % side == 0
         && row_start < high
         && (row_end == row_start + side || (high <= row_end && row_end <= row_start + side))
-    {
-        Ok(())
-    } else {
-        Err(Refusal::TileOutOfRange)
-    }
+}
+
+/// Test 10: the columns and rows are a tile's. Rows may be any number.
+pub fn check_tile(setup: &Frame, asked: Asked) -> Result<(), Refusal>
+    ensures { (p : List ℤ) → Tests (tile_fits (call_of setup.now asked p)) Refusal.TileOutOfRange result }
+{
+    refused_if(!tile_fits(setup, asked), Refusal::TileOutOfRange)
 }
 
 // The row of the field where the superblock row begins.
@@ -199,11 +197,11 @@ fn first_row(asked: Asked) -> usize
     }
 }
 
-// The numbers of a tile that passes tests 9 and 10.
-fn tile_at(setup: &Frame, asked: Asked) -> Tile
+/// The tile that a load is asked for, which passes tests 9 and 10. Its numbers don't depend on the load's switches.
+pub fn tile_of(setup: &Frame, asked: Asked) -> Tile
     requires setup { setup_in_range setup.now ≡ true }
     requires tile { tile_fits (call_of setup.now asked []) ≡ true }
-    ensures { (p : List ℤ) → geometry result ≡ tile_of (call_of setup.now asked p) }
+    ensures { (traj holes : Bool) (p : List ℤ) → geometry result ≡ tile_of (call_of setup.now (asked_of asked.whole_frame traj holes asked.col_start asked.col_end asked.row_start asked.row_end) p) }
 {
     let stride = stride_of(setup);
     let high = high_of(setup);
@@ -223,14 +221,14 @@ fn tile_at(setup: &Frame, asked: Asked) -> Tile
     }
 }
 
-/// The tile that a load is asked for, where tests 9 and 10 pass.
+/// The same where tests 9 and 10 pass, else the refusal of the first that doesn't.
 #[tactic(auto, unfolding(load::specs::Calls::answer))]
-pub fn tile_of(setup: &Frame, asked: Asked) -> Result<Tile, Refusal>
+pub fn try_tile_of(setup: &Frame, asked: Asked) -> Result<Tile, Refusal>
     ensures { (p : List ℤ) → MakesTile (call_of setup.now asked p) result }
 {
     check_setup(setup)?;
     check_tile(setup, asked)?;
-    Ok(tile_at(setup, asked))
+    Ok(tile_of(setup, asked))
 }
 
 // The rows of the field: in whole-frame mode the frame's, raised to a multiple of 32, else a superblock row and three above it.
@@ -300,7 +298,7 @@ pub fn check_lengths(
         & (7 * row <= traj_x)
         & (21 * row <= lengths.map_y)
         & (21 * row <= lengths.map_x);
-    if long { Ok(()) } else { Err(Refusal::TooShort) }
+    refused_if(!long, Refusal::TooShort)
 }
 
 // A block has no reference, or one of the seven and a vector that is the mark as a whole or not at all.
@@ -418,11 +416,7 @@ pub fn check_contents(
 {
     let n = 7 * (t.side * t.stride);
     let fine = sources_fine(planes, t, setup) & trajs_in_range(traj_y, traj_x, n);
-    if fine {
-        Ok(())
-    } else {
-        Err(Refusal::ContentsOutOfRange)
-    }
+    refused_if(!fine, Refusal::ContentsOutOfRange)
 }
 
 /// The tile that a load is asked for, or the first test that turns the load back. No test reads the
@@ -439,7 +433,7 @@ pub fn check_call(
     ensures { (s : Store) → AreLengths lengths s
         → AnswersCall (call_of setup.now asked planes.now) (with_traj s traj_y.now traj_x.now s.map_y s.map_x) result }
 {
-    let t = tile_of(setup, asked)?;
+    let t = try_tile_of(setup, asked)?;
     check_lengths(
         setup,
         asked,

@@ -75,7 +75,7 @@ fn accepted_tile(
     ensures accepted { OnOk result (Accepted setup.now asked (store_of field.now trajectories.now maps.now)) }
     ensures tile { IfOk result (λ t. geometry t ≡ tile_of (call_of setup.now asked [])) }
 {
-    let t = checks::tile_of(setup, asked)?;
+    let t = checks::try_tile_of(setup, asked)?;
     let planes = 6 * (7 * (checks::high_of(setup) * checks::stride_of(setup)));
     let lengths = Lengths::of(field, maps);
     let (ys, xs) = (trajectories.y.len(), trajectories.x.len());

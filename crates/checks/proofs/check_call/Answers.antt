@@ -1,5 +1,5 @@
 -- `checks::check_call` meets its contract. Assumes nothing.
-use Rattle.std.proofs.Common.{◌≡◌, refl, sym, subst, true, List, ℤ, pos, length, replicate, rules}
+use Rattle.std.proofs.Common.{◌≡◌, refl, sym, subst, true, List, ℤ, pos, replicate, rules}
 use Rattle.std.proofs.Math.ListN.{length-replicate}
 use Rattle.levels.specs.Answer.{number_of}
 use Rattle.store.specs.Store.{Store, pack, with_traj}

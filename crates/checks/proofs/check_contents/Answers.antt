@@ -1,5 +1,5 @@
 -- `checks::check_contents` meets its contract. Assumes nothing.
-use Rattle.std.proofs.Common.{◌≡◌, refl, sym, ◌∙◌, subst, ◌&&◌, List, ◌*◌, ℤ, pos, get_or}
+use Rattle.std.proofs.Common.{◌≡◌, refl, subst, ◌&&◌, List, ◌*◌, ℤ, pos, get_or}
 use Rattle.frame.specs.declared.Frame.{Frame}
 use Rattle.store.specs.Store.{Store, vec, with_traj}
 use Rattle.tile.specs.Geometry.{Geometry}
@@ -11,6 +11,7 @@ use Rattle.load.specs.Asked.{call_of}
 use Rattle.load.specs.Load.{tile_of}
 use Rattle.load.specs.Calls.{source_fine, trajs_in_range, contents_fine}
 use Rattle.checks.specs.Code.{fine_at}
+use Rattle.checks.proofs.Tests.{tests}
 use Rattle.checks.proofs.check_contents.Goals as goal
 
 -- the two tests with the tile as a value
@@ -23,10 +24,6 @@ contents_are f a planes ty tx s t k =
     (all_below f.sources.n_mfmvs (fine_at t planes f) && all_below (7 * (t.side * t.stride)) (λ i. traj_in_range (vec (get_or ty i (pos 0)) (get_or tx i (pos 0)))))
     ≡ contents_fine (call_of f a planes) (with_traj s ty tx s.map_y s.map_x)) k refl
 
-pub returns-then-fine : goal.returns-then-fine
-returns-then-fine c =
-    λ a s k. sym (contents_are _ a _ _ _ s _ k) ∙ (rw (c.sources_fine.ensures, c.trajs_in_range.ensures) at c.if-fine.true)
-
-pub returns-else-fine : goal.returns-else-fine
-returns-else-fine c =
-    λ a s k. (refl, sym (contents_are _ a _ _ _ s _ k) ∙ (rw (c.sources_fine.ensures, c.trajs_in_range.ensures) at c.if-fine.false))
+pub returns : goal.returns
+returns c =
+    λ a s k. rw (← contents_are _ a _ _ _ s _ k) (tests _ _ _ (rw (c.sources_fine.ensures, c.trajs_in_range.ensures) at c.refused_if.ensures))

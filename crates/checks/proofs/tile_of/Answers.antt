@@ -1,11 +1,11 @@
--- `checks::tile_at` meets its contract. Assumes nothing.
+-- `checks::tile_of` meets its contract. Assumes nothing.
 use Rattle.std.proofs.Common.{[], arith}
 use Rattle.tile.specs.Sound.{Sound}
 use Rattle.load.specs.Asked.{call_of}
 use Rattle.load.specs.Load.{tile_of}
 use Rattle.load.proofs.Accepted.{in_range, columns, sound}
-use Rattle.checks.proofs.tile_at.Goals.{Start}
-use Rattle.checks.proofs.tile_at.Goals as goal
+use Rattle.checks.proofs.tile_of.Goals.{Start}
+use Rattle.checks.proofs.tile_of.Goals as goal
 
 sound_at : (c : Start) → Sound (tile_of (call_of c.args.setup.now c.args.asked []))
 sound_at c = let q = call_of c.args.setup.now c.args.asked [] in sound q (in_range c.args.setup.now c.requires.setup) (columns q c.requires.tile)
@@ -22,4 +22,4 @@ invariant_of-result c =
 pub returns : goal.returns
 unfolding tile_of
 returns c =
-    λ p. rw (c.min.ensures, c.first_row.ensures, c.stride_of-stride.ensures.value, c.high_of-high.ensures.value, c.wide_of.ensures, c.edge_of.ensures, c.block_of.ensures, c.side_of.ensures.value, c.from.ensures)
+    λ traj holes p. rw (c.min.ensures, c.first_row.ensures, c.stride_of-stride.ensures.value, c.high_of-high.ensures.value, c.wide_of.ensures, c.edge_of.ensures, c.block_of.ensures, c.side_of.ensures.value, c.from.ensures)
