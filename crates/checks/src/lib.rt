@@ -392,9 +392,8 @@ fn trajs_in_range(traj_y: &[i32], traj_x: &[i32], n: usize) -> bool
     ensures { result ≡ all_below n (λ i. traj_in_range (vec (get_or traj_y.now i (pos 0)) (get_or traj_x.now i (pos 0)))) }
 {
     let mut ok = true;
-    // By index: `vector_at` reads both lists, which a zip of their parts would do here.
-    for i in 0..n {
-        ok &= traj_in_range(store::vector_at(traj_y, traj_x, i));
+    for (&y, &x) in traj_y[..n].iter().zip(&traj_x[..n]) {
+        ok &= traj_in_range(Mv { y, x });
     }
     ok
 }
