@@ -21,6 +21,7 @@ use tile::{Pass, SampledCell, Tile, walk};
 /// to its reference.
 // No ghost field says that the lists are long enough for a tile: the type would carry the tile's numbers, and what one of several calls leaves would have to be rewritten along them before the next. So it is asked for (`IsHeld`).
 // Field, trajectories and maps are passed as three parameters: a struct that holds them by value keeps at its return only the lists' lengths, one that holds references takes a lifetime for each of them and of their lists.
+// For the same reason it is three lists, and no `Pairs` of the first two beside the third.
 #[derive(Drop)]
 pub struct Field<'a> {
     /// The vectors' y.

@@ -30,6 +30,7 @@ struct Around {
 // A sampled neighbour, projected from its own distance to another's: its mean with v, and added to s. Where it is empty, or
 // there is none, these are v and s themselves: chosen by the branch that is there for the projection.
 // Not one with traj's `beside`, which hands on the vector that it reads, of other lists at another place: here it is projected, so that a mean without it comes by the same branch, and is not computed again.
+// Whether it is there stands beside its place, and no Option of it: right and below are asked for together too, and the place between is no more than both steps.
 fn beside(
     field: &Field<'_>,
     there: bool,

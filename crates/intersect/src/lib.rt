@@ -20,6 +20,7 @@ use store::Pairs;
 use tile::Tile;
 
 /// A cell of the frame.
+// Any numbers, and no ghost field: what is asked of a place (`IsOwn`, `IsNear`, within the tile's columns) depends on the tile, and says more than that it is low.
 #[derive(Clone, Copy)]
 pub struct Place {
     /// Its row.
@@ -123,6 +124,7 @@ fn clip_sum(a: i32, b: i32, bound: u16) -> i32
 
 // One half: slot a's trajectories through `at`, in whose windows `origin` lies too, go on by mv to
 // slot b, clipped to ±bound.
+// What is asked of it (`InStore`) depends on the tile, so that it is no ghost field.
 #[derive(Clone, Copy)]
 struct Half {
     bound: u16,
@@ -196,7 +198,7 @@ fn led_to(t: &Tile, m: Mv, k: usize, h: &Half, col: usize) -> Option<Place>
 }
 
 // One plane of a half. row and col are the place of the half's cell and its block, the same for
-// every plane.
+// every plane: found once for the three. They are no part of the half, whose numbers are the definition's.
 fn follow(
     trajectories: &mut Pairs<'_, i32>,
     maps: &mut Pairs<'_, i8>,

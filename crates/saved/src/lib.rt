@@ -21,6 +21,7 @@ pub struct Block {
 }
 
 /// The block whose six bytes begin at `at`.
+// The direction is an index, of the block's two vectors and two references. `checks` tests the bytes as they stand: this reads what that has let through.
 pub fn block_at(part: &[i8], at: usize, dir: usize) -> Option<Block>
     requires inside { at + 6 ≤ length part.now }
     requires direction { dir < 2 }
@@ -29,9 +30,7 @@ pub fn block_at(part: &[i8], at: usize, dir: usize) -> Option<Block>
     ensures reference { IfSome result (λ b. b.reference < 7) }
     ensures vector { IfSome result (λ b. past_range b.mv ≡ false) }
 {
-    let Ok(reference) = usize::try_from(part[at + 4 + dir]) else {
-        return None;
-    };
+    let reference = usize::try_from(part[at + 4 + dir]).ok()?;
     let y = part[at + 2 * dir];
     if y == -128 {
         return None;

@@ -20,7 +20,7 @@ use levels::Mv;
 use mv::Sum;
 use tile::{SampledCell, Tile};
 
-// A cell, where there is one, is added to a sum.
+// A cell, where there is one, is added to a sum. Whether it is there stands beside its place, and no Option of it: of five calls each would make one, to be taken apart here.
 fn add_if(field: &Field<'_>, there: bool, t: &Tile, y: usize, x: usize, s: Sum) -> Sum
     requires inside { there ≡ true → InTile (geometry t.now) y x }
     requires held { AreVectorsHeld (geometry t.now) field.now }
@@ -62,7 +62,7 @@ struct Block {
     cols: usize,
 }
 
-// The means of a block's sampled cells, cell (a, b) at 8 a + b.
+// The means of a block's sampled cells, cell (a, b) at 8 a + b: one list, as both are counted by the same two numbers.
 fn block_means(field: &Field<'_>, t: &Tile, block: Block) -> [Mv; 64]
     requires inside { InBlock (geometry t.now) block.start block.end block.top block.rows block.cols }
     requires held { AreVectorsHeld (geometry t.now) field.now }
@@ -135,6 +135,7 @@ pub fn smoothen(field: &mut Field<'_>, t: &Tile, delta: i8)
     ensures same_borrow { IsSameField field.new field.old }
     ensures stored { (s : Store) → stored s field.new ≡ run (owns (geometry t.now)) (smoothen (geometry t.now) delta) (stored s field.old) }
 {
+    // By their numbers: a block's first column and row say where it stands.
     for start in (t.left..t.right).step_by(t.block) {
         let end = t.right.min(start + t.block);
         for top in (t.top..t.bottom).step_by(t.block) {

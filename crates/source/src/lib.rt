@@ -49,6 +49,7 @@ pub fn project_source(
     if !present {
         return;
     }
+    // -32 and no Option: C's record has it.
     if s.ref2cur == -32 {
         return;
     }
@@ -57,6 +58,7 @@ pub fn project_source(
     let end = (t.right + t.edge).min(t.wide);
     let at = saved::rows_at(t, n);
     let part = &planes[at..];
+    // By their numbers: row and column are the block's place.
     for y in (t.top..t.bottom).step_by(t.step) {
         for x in (from..end).step_by(t.step) {
             sample::sample(field, trajectories, maps, part, t, traj, s, Place { y, x });

@@ -60,6 +60,7 @@ impl Tile {
     }
 
     /// How many sampled rows or columns there are from `a` up to `b`.
+    // By cases, and no division by the step, here, in `row_of` and in `on_step`: as for the blocks, the compiler cannot know what it is.
     pub fn count(&self, a: usize, b: usize) -> usize
         requires order { a ≤ b }
         requires low { b ≤ 16384 }
@@ -119,6 +120,7 @@ impl Tile {
 
     /// A map cell from its place in the superblock row, for a caller that looks up one place in
     /// several planes.
+    // A plane is one of three, a number, as it is counted and moves the blocks.
     pub fn map_in(&self, k: usize, n: usize, at: usize) -> usize
         requires plane { k < 3 }
         requires slot { n < 7 }

@@ -85,7 +85,7 @@ pub fn empty_trajs(trajectories: &mut Pairs<'_, i32>, maps: &mut Pairs<'_, i8>, 
     }
 }
 
-// The place of a trajectory of the superblock row.
+// The place of a trajectory of the superblock row. Not `traj_at` of tile, which takes any row and divides it: here the row is the tile's.
 fn traj_in(t: &Tile, n: usize, y: usize, x: usize) -> usize
     requires slot { n < 7 }
     requires top { t.now.top ≤ y }
@@ -98,6 +98,7 @@ fn traj_in(t: &Tile, n: usize, y: usize, x: usize) -> usize
 
 // A sampled neighbour; empty where there is none. Not one with `beside` of `gaps`, which projects a
 // field cell and answers its mean with another and its sum: the two share no more than the test.
+// No Option, of the place or of the vector: right and below are asked for together too, and the means take an empty vector for none.
 fn beside(there: bool, trajectories: &Pairs<'_, i32>, t: &Tile, n: usize, y: usize, x: usize) -> Mv
     requires slot { n < 7 }
     requires inside { there ≡ true → InTile (geometry t.now) y x }
