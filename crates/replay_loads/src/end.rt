@@ -2,12 +2,12 @@
 ghost use Rattle.std.specs.Io.KnownBytes.{Appends};
 ghost use Rattle.std.specs.Prelude.{◌≡◌, ◌+◌, ◌≤◌, ◌++◌, OnOk};
 ghost use Rattle.arrayvec.specs.ArrayVec.{array_vec_len};
-ghost use Rattle.lines.specs.Report.{differs_text};
 ghost use Rattle.lines.specs.Line.{seen};
-ghost use Rattle.replay_loads.specs.Report.{tallies_text, call_text, end_text, report_text};
+ghost use Rattle.replay_loads.specs.Report.{tallies_text, end_text, report_text};
 ghost use Rattle.replay_loads.specs.Run.{IsEnd};
 
-use crate::book::{Book, End};
+use crate::asked::Asked;
+use crate::book::End;
 use crate::words::{Kind, Tallies};
 use crate::{Reader, Replay};
 use arrayvec::ArrayVec;
@@ -26,29 +26,20 @@ fn put_tallies<const N: usize>(tallies: &Tallies, out: &mut ArrayVec<u8, N>)
     report::put_agreed(b"passes", tallies[Kind::Pass.index()], out);
 }
 
-#[tactic(auto, unfolding(crate::specs::Report::call_text))]
-fn put_differing<const N: usize>(book: &Book, out: &mut ArrayVec<u8, N>)
-    requires room { array_vec_len out.old + 40 ≤ N }
-    ensures { out.new.items ≡ out.old.items ++ differs_text book.now.line (call_text book.now.call.items) }
-{
-    if book.call.len() == 14 {
-        report::put_differs(book.line, b"pass", out);
-    } else {
-        report::put_differs(book.line, b"call", out);
-    }
-}
-
 // Appends the last line of the report.
-fn put_end<const N: usize>(book: &Book, sum: u64, line: u64, out: &mut ArrayVec<u8, N>)
+fn put_end<const N: usize>(end: &Option<End>, sum: u64, last: u64, out: &mut ArrayVec<u8, N>)
     requires room { array_vec_len out.old + 62 ≤ N }
-    ensures { out.new.items ≡ out.old.items ++ end_text book.now.ended book.now sum line }
+    ensures { out.new.items ≡ out.old.items ++ end_text end.now sum last }
 {
-    match book.ended {
+    match *end {
         Some(End::AllTaken) => report::put_all_agree(sum, out),
-        Some(End::Differs) => put_differing(book, out),
-        Some(End::NotALine) => report::put_why(line, b"not a line that may stand here", out),
-        Some(End::NoRoom) => report::put_why(line, b"no room for the lists of this case", out),
-        None => report::put_why(line, b"too many lines", out),
+        Some(End::Differs { line, asked }) => match asked {
+            Asked::Call(_) => report::put_differs(line, b"call", out),
+            Asked::Pass(_) => report::put_differs(line, b"pass", out),
+        },
+        Some(End::NotALine) => report::put_why(last, b"not a line that may stand here", out),
+        Some(End::NoRoom) => report::put_why(last, b"no room for the lists of this case", out),
+        None => report::put_why(last, b"too many lines", out),
     }
 }
 
@@ -58,7 +49,7 @@ fn put_report<const N: usize>(run: &Replay, line: u64, out: &mut ArrayVec<u8, N>
     ensures { out.new.items ≡ out.old.items ++ report_text run.now.book line run.now.tallies }
 {
     put_tallies(&run.tallies, out);
-    put_end(&run.book, report::total(&run.tallies), line, out);
+    put_end(&run.book.ended, report::total(&run.tallies), line, out);
 }
 
 // Not one with that of `replay`: the reports differ, and the rest is two calls.
