@@ -31,7 +31,8 @@ fn copy<T: Copy + TryFrom<i64, Error = TryFromIntError>>(
     cases::read(n, from, &mut to[..count])
 }
 
-// A pass has fourteen numbers, and reads no planes.
+// A pass has fourteen numbers, and reads no planes. By length: `judge` is lent any list, and an enum made
+// of it here would be taken apart again for the two judges, which are lent lists.
 fn judge_lists(
     field: &mut Field<'_>,
     trajectories: &mut Pairs<'_, i32>,
