@@ -2,13 +2,17 @@
 #![tactic(auto)]
 
 ghost use Rattle.std.specs.Prelude.{◌≡◌, ◌≤◌, ◌+◌, ℕ, nat_abs, length, IfSome, Ok, Some, slice_get, ◌<◌};
+ghost use Rattle.std.specs.Result.{result_unwrap_or};
+ghost use Rattle.levels.specs.Answer.{refusal_of};
 ghost use Rattle.cases.specs.Numbers.{at, Inside, Is32, AllInside, is_on, IsSize, IsNumber};
 ghost use Rattle.cases.specs.Verdicts.{WhenTrue};
 
+use levels::Refusal;
 use std::array;
 use std::num::TryFromIntError;
 
 /// What a judge says of a case.
+// Not the `Option<bool>` that the judges make it of: whoever reads a verdict tells three outcomes apart, and these are their names.
 #[derive(Clone, Copy, Debug, PartialEq, Eq)]
 pub enum Verdict {
     /// What the line states is the library's answer.
@@ -32,6 +36,17 @@ impl From<Option<bool>> for Verdict {
             Some(false) => Verdict::Differs,
             None => Verdict::NotACase,
         }
+    }
+}
+
+/// What an answer says: the refusal's number, 0 for none, and the value, beside a refusal `none`.
+pub fn said<T: Copy>(answer: Result<T, Refusal>, none: T) -> (u8, T)
+    ensures number { result.0 ≡ refusal_of answer }
+    ensures value { result.1 ≡ result_unwrap_or answer none }
+{
+    match answer {
+        Ok(v) => (0, v),
+        Err(e) => (e.number(), none),
     }
 }
 
@@ -114,6 +129,7 @@ pub fn read<T: Copy + TryFrom<i64, Error = TryFromIntError>>(
     ensures read { IfSome result (λ _. (k : ℕ) (v : T) → slice_get to.new k ≡ Some v → T.try_from_gives (at n.now (from + k)) (Ok v)) }
 {
     let numbers = n.get(from..)?;
+    // The index serves both lists: `numbers` may be the shorter, where a `zip` would end and leave the rest unread.
     for (i, v) in to.iter_mut().enumerate() {
         *v = T::try_from(*numbers.get(i)?).ok()?;
     }

@@ -1,14 +1,23 @@
 -- Laws of the kind `frame`: the header and the record by their parts. Assumes nothing.
-use Rattle.std.proofs.Common.{Some, slice_get, false, sym, ap, ◌∙◌, ◌≡◌, Bool, List, ℕ, ◌+◌, ◌<◌, arith, ℤ, pos, nat_abs, set}
+use Rattle.std.proofs.Common.{Result, Ok, Err, Some, slice_get, false, sym, ap, ◌∙◌, ◌≡◌, Bool, List, ℕ, ◌+◌, ◌<◌, arith, ℤ, pos, nat_abs, set}
 use Rattle.std.proofs.lemmas.Option.{get_or_from_slice_get}
+use Rattle.std.specs.Result.{result_unwrap_or}
 use Rattle.levels.specs.declared.OrderHint.{OrderHint}
+use Rattle.levels.specs.declared.Refusal.{Refusal}
+use Rattle.levels.specs.Answer.{refusal_of}
 use Rattle.picks.specs.declared.Saved.{Saved}
 use Rattle.picks.specs.declared.Pocs.{Pocs}
 use Rattle.entry.specs.declared.Source.{Source}
 use Rattle.frame.specs.declared.Header.{Header}
 use Rattle.frame.specs.declared.Frame.{Frame}
+use Rattle.frame.specs.Frame.{SaidSetup, says_setup, zero_frame}
 use Rattle.cases.specs.Numbers.{at, hint, is_on}
 use Rattle.frame_cases.specs.FrameCase.{hints_at, all_saved, switches_at, pocs_of, header_of, bit, bits, bytes, in_i64, put_seven, put_source, put_sources, put_head, put_frame}
+
+-- what an answer says, by its parts: beside a refusal the record is zeros
+pub said_setup : (r : Result Frame Refusal) {m : ℕ} {f z : Frame} → m ≡ refusal_of r → f ≡ result_unwrap_or r z → z ≡ zero_frame → ◌≡◌ {A = SaidSetup} (record { refusal = m; frame = f }) (says_setup r)
+said_setup (Ok x) a b c = cc
+said_setup (Err e) a b c = cc
 
 -- the saved hints h, and their count
 abbrev pub saved : List OrderHint → ℕ → Saved

@@ -5,13 +5,12 @@
 ghost use Rattle.std.specs.Prelude.{◌≡◌, true, ℕ, ℤ, ◌+◌, ◌*◌, ◌≤◌, ◌<◌, length, Some, slice_get};
 ghost use Rattle.cases.specs.Verdicts.{WhenTrue, WhenAgrees};
 ghost use Rattle.cases.specs.Numbers.{Bytes};
-ghost use Rattle.frame.specs.Frame.{says_setup};
 ghost use Rattle.frame_cases.specs.FrameCase.{HeaderFits, hints_at, saved_at, all_saved, switches_at, pocs_of, header_of, in_i64, put_seven, put_source, put_sources, put_head, put_frame, record_of, Stated, FrameAgrees};
 
 use cases::Verdict;
 use entry::Source;
 use frame::{Frame, Header, Sources};
-use levels::{OrderHint, Refusal};
+use levels::OrderHint;
 use picks::{Pocs, Saved};
 use std::array;
 
@@ -157,6 +156,7 @@ fn put_source(s: Source, out: &mut [i64; 171], k: usize)
 fn put_sources(sources: Sources, out: &mut [i64; 171])
     ensures { out.new ≡ put_sources sources out.old }
 {
+    // The index says where in the record a source's numbers go.
     for (i, &s) in sources.mfmv.iter().enumerate() {
         put_source(s, out, 43 + 32 * i);
     }
@@ -206,25 +206,13 @@ pub fn is_record(f: Frame, n: &[i64], from: usize) -> bool
     cases::same(&made, n, from)
 }
 
-// The refusal's number, 0 for none, and the record, zeros where the header is refused.
-// It and `said` of leaf_cases are two functions: this one ensures the definition's record of both,
-// which a common one, that ensures number and value apart, would leave to be put together here.
-fn numbered(setup: Result<Frame, Refusal>) -> (u8, Frame)
-    ensures { says_setup setup ≡ record { refusal = result.0; frame = result.1 } }
-{
-    match setup {
-        Ok(f) => (0, f),
-        Err(refusal) => (refusal.number(), frame::zero_frame()),
-    }
-}
-
 fn same_frame(n: &[i64]) -> Option<bool>
     ensures { result ≡ Some true → FrameAgrees n.now }
 {
     if n.len() != 255 || !fits_header(n) {
         return None;
     }
-    let (number, f) = numbered(frame::init_frame(&header_of(n)));
+    let (number, f) = cases::said(frame::init_frame(&header_of(n)), frame::zero_frame());
     Some(i64::from(number) == n[83] && is_record(f, n, 84))
 }
 

@@ -2,14 +2,14 @@
 use Rattle.std.proofs.Common.{Result, Ok, Err, Bool, true, false, ◌&&◌, ◌≡◌, refl, ℤ, pos}
 use Rattle.std.proofs.lemmas.Bool.Decides.{Decides-int_eq}
 use Rattle.std.specs.Ordering.{int_eq}
+use Rattle.std.specs.Result.{result_unwrap_or}
 use Rattle.levels.specs.Answer.{refusal_of}
 use Rattle.levels.specs.declared.QMv.{QMv}
 use Rattle.levels.specs.declared.Refusal.{Refusal}
 use Rattle.env.specs.Hints.{says_diff}
-use Rattle.leaf_cases.specs.Agrees.{value_or}
 
 -- an answer's refusal number and difference, by its parts
-pub told_diff : (r : Result ℤ Refusal) → (refusal_of r ≡ (says_diff r).refusal) × (value_or (pos 0) r ≡ (says_diff r).diff)
+pub told_diff : (r : Result ℤ Refusal) → (refusal_of r ≡ (says_diff r).refusal) × (result_unwrap_or r (pos 0) ≡ (says_diff r).diff)
 told_diff (Ok d) = (refl, refl)
 told_diff (Err e) = (refl, refl)
 

@@ -1,8 +1,7 @@
 -- What a verdict that a case agrees says of the numbers of its line. Assumes nothing.
-use Rattle.std.specs.Prelude.{◌≡◌, Result, Ok, Err, List, ℕ, ◌+◌, ℤ, pos, nat_abs}
+use Rattle.std.specs.Prelude.{◌≡◌, List, ℕ, ◌+◌, ℤ, pos, nat_abs}
 use Rattle.levels.specs.declared.Mv.{Mv}
 use Rattle.levels.specs.declared.QMv.{QMv}
-use Rattle.levels.specs.declared.Refusal.{Refusal}
 use Rattle.levels.specs.Answer.{Said}
 use Rattle.env.specs.Hints.{SaidDiff, poc_diff}
 use Rattle.mv.specs.Averages.{smoothed, gap_mean}
@@ -17,11 +16,6 @@ vector_at n k = record { y = at n k; x = at n (k + 1) }
 -- the packed vector of the numbers k and k + 1
 abbrev pub packed_at : List ℤ → ℕ → QMv
 packed_at n k = record { y = at n k; x = at n (k + 1) }
-
--- the value of an answer, and v beside a refusal
-abbrev pub value_or : {T : Type 0} → T → Result T Refusal → T
-value_or v (Ok x) = x
-value_or v (Err e) = v
 
 -- the refusal's number and the vector are those of the answer
 pub record Stated (s : Said) (number : ℤ) (v : Mv) : Type 0 where

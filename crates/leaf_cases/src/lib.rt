@@ -4,30 +4,19 @@
 #![tactic(auto)]
 
 ghost use Rattle.std.specs.Prelude.{◌≡◌, true, ◌≤◌, nat_abs, Some, IfSome};
-ghost use Rattle.levels.specs.Answer.{refusal_of, says};
+ghost use Rattle.levels.specs.Answer.{says};
 ghost use Rattle.cases.specs.Verdicts.{WhenAgrees};
-ghost use Rattle.leaf_cases.specs.Agrees.{value_or, Stated, ProjectAgrees, ScaleAgrees, QuantizeAgrees, DequantizeAgrees, HintAgrees, SmoothAgrees, GapAgrees};
+ghost use Rattle.leaf_cases.specs.Agrees.{Stated, ProjectAgrees, ScaleAgrees, QuantizeAgrees, DequantizeAgrees, HintAgrees, SmoothAgrees, GapAgrees};
 ghost use Rattle.mv.specs.Averages.{SumOf};
 
 use cases::Verdict;
 use levels::{Mv, OrderHint, QMv, Refusal};
 
-// What the answer says: the refusal's number, 0 for none, and the value, beside a refusal `none`.
-fn said<T: Copy>(answer: Result<T, Refusal>, none: T) -> (u8, T)
-    ensures number { result.0 ≡ refusal_of answer }
-    ensures value { result.1 ≡ value_or none answer }
-{
-    match answer {
-        Ok(v) => (0, v),
-        Err(e) => (e.number(), none),
-    }
-}
-
 // Does the answer have this refusal number and this vector?
 fn says(answer: Result<Mv, Refusal>, refusal: i32, stated: Mv) -> bool
     ensures { result ≡ true → Stated (says answer) refusal stated }
 {
-    let (number, v) = said(answer, Mv { y: 0, x: 0 });
+    let (number, v) = cases::said(answer, Mv { y: 0, x: 0 });
     i32::from(number) == refusal && v == stated
 }
 
@@ -121,7 +110,7 @@ fn hint(n: &[i64]) -> Option<bool>
     let a = OrderHint(u8::try_from(a).ok()?);
     let b = OrderHint(u8::try_from(b).ok()?);
     let stated = i32::try_from(stated).ok()?;
-    let (number, diff) = said(env::get_poc_diff(nbits, a, b), 0);
+    let (number, diff) = cases::said(env::get_poc_diff(nbits, a, b), 0);
     Some(i64::from(number) == refusal && diff == stated)
 }
 

@@ -78,12 +78,9 @@ fn run_call(
     ensures stored { store_of field.new trajectories.new maps.new
         ≡ called answer load (call_of setup.now asked planes.now) (store_of field.old trajectories.old maps.old) }
 {
-    // Matched here, and not by a function shared with `said` of leaf_cases: a load has no value beside
-    // the number.
-    match tmvs::load_tmvs(field, trajectories, maps, planes, setup, asked) {
-        Ok(()) => 0,
-        Err(refusal) => refusal.number(),
-    }
+    let answer = tmvs::load_tmvs(field, trajectories, maps, planes, setup, asked);
+    let (number, ()) = cases::said(answer, ());
+    number
 }
 
 /// Whether the lists of a store are the numbers that are wanted: every element, those that a load
