@@ -1,17 +1,15 @@
 -- Laws of the loads of a frame, and the theorem that specs/Frame.antt states. Assumes nothing.
-use Rattle.std.proofs.Common.{◌≡◌, refl, ap, ◌∙◌, sym, Bool, true, false, cond, List, [], ◌∷◌, ◌++◌, ℕ, suc, ◌+◌, ◌-◌, ◌*◌, ◌/◌, ◌%◌, min, ◌≤◌, ◌<◌, mul_comm, div-le_self, add-one, arith, eqb, ℤ, length, get_or, drop, drop_of_length-le, drop-cons, eq-eqb, ne_eqb}
-use Rattle.std.proofs.Math.Nat.{mul-div-le}
+use Rattle.std.proofs.Common.{◌≡◌, refl, ap, ◌∙◌, sym, Bool, true, false, cond, List, [], ◌∷◌, ◌++◌, ℕ, suc, ◌+◌, ◌-◌, ◌*◌, ◌/◌, ◌%◌, ◌≤◌, ◌<◌, add-one, arith, eqb, ℤ, length, get_or, drop, drop_of_length-le, drop-cons, eq-eqb, ne_eqb}
+use Rattle.std.proofs.Math.Nat.{sub-zero}
 use borrow.Author.Tests.{eqb-false}
 use Rattle.frame.specs.declared.Frame.{Frame}
 use Rattle.store.specs.Store.{Store}
 use Rattle.store.specs.Calls.{called, as_listed}
-use Rattle.loops.proofs.Turns.{row_within}
 use Rattle.load.specs.Asked.{asked_of, call_of}
 use Rattle.load.specs.Load.{Call, side_of, high_of}
 use Rattle.load.specs.Calls.{answer, load}
-use Rattle.load.proofs.Accepted.{side_low_lem}
 use Rattle.sources.proofs.Rounds.{Parts, IsSameParts, store_in, same_parts, same_parts_after}
-use Rattle.loads.specs.Frame.{row_calls, rows_calls, rows_of, after, until_refused, NoneRefused}
+use Rattle.loads.specs.Frame.{row_calls, rows_calls, rows_of, frame_calls, after, until_refused, NoneRefused}
 
 -- ---- a call and those that follow
 
@@ -50,6 +48,32 @@ pub record Going (left all : List Call) (p q : Parts) : Type 0 where
 pub going_first : (cs : List Call) (p : Parts) → Going cs cs p p
 going_first cs p = record { like = same_parts p; is = refl }
 
+-- a row at which a superblock row begins, by the number of superblock rows above it
+record Place (f : Frame) (row : ℕ) : Type 0 where
+  is : row ≡ row / side_of f * side_of f
+  next_on : (row + side_of f) % side_of f ≡ 0
+  next : (row + side_of f) / side_of f ≡ row / side_of f + 1
+  below : row < high_of f → row / side_of f < rows_of f
+  past : high_of f ≤ row → rows_of f ≤ row / side_of f
+
+first_place : (f : Frame) → (0 % side_of f ≡ 0) × (0 / side_of f ≡ 0)
+first_place f = go (eqb f.sb128 0) (eqb f.sb128 1)
+  where
+    go : (p q : Bool) → let d : ℕ = cond p 8 (cond q 16 32) in (0 % d ≡ 0) × (0 / d ≡ 0)
+    go true q = (refl, refl)
+    go false true = (refl, refl)
+    go false false = (refl, refl)
+
+row_place : (f : Frame) (row : ℕ) → row % side_of f ≡ 0 → Place f row
+row_place f row on =
+    let (a, b, c, d, e) = go (eqb f.sb128 0) (eqb f.sb128 1) on in
+    record { is = a; next_on = b; next = c; below = d; past = e }
+  where
+    go : (p q : Bool) → let d : ℕ = cond p 8 (cond q 16 32) in row % d ≡ 0 → (row ≡ row / d * d) × ((row + d) % d ≡ 0) × ((row + d) / d ≡ row / d + 1) × (row < high_of f → row / d < (high_of f + (d - 1)) / d) × (high_of f ≤ row → (high_of f + (d - 1)) / d ≤ row / d)
+    go true q h = (omega arith, omega arith, omega arith, (λ l. omega arith), (λ l. omega arith))
+    go false true h = (omega arith, omega arith, omega arith, (λ l. omega arith), (λ l. omega arith))
+    go false false h = (omega arith, omega arith, omega arith, (λ l. omega arith), (λ l. omega arith))
+
 module _ (f : Frame) (traj holes : Bool) (planes : List ℤ) where
   -- ---- the tiles of a superblock row
   module _ (row : ℕ) (ends : List ℕ) (i start bottom n : ℕ) (all : List Call) (p q o : Parts) where
@@ -82,57 +106,42 @@ module _ (f : Frame) (traj holes : Bool) (planes : List ℤ) where
   row_end row ends i start all p o h g = (rw (drop_of_length-le ends {i = i} h) at g.is)
 
   -- ---- the superblock rows of the frame
-  module _ (ends : List ℕ) (i row n : ℕ) (all : List Call) (p q o : Parts) where
-    rows_first : i < rows_of f → row ≡ i * side_of f → rows_calls f traj holes planes ends (rows_of f - i) i ≡ row_calls f traj holes planes row 0 ends ++ rows_calls f traj holes planes ends (rows_of f - (i + 1)) (i + 1)
-    unfolding rows_calls
-    rows_first h r = let e : rows_of f - i ≡ suc (rows_of f - (i + 1)) = omega arith in rw (e, r)
 
-    pub rows_on : i < rows_of f → row ≡ i * side_of f → after n (store_in q) ≡ until_refused (row_calls f traj holes planes row 0 ends) (store_in p) → n ≡ 0 → IsSameParts q p
-        → Going (rows_calls f traj holes planes ends (rows_of f - i) i) all p o → Going (rows_calls f traj holes planes ends (rows_of f - (i + 1)) (i + 1)) all q o
-    rows_on h r l z k g =
+  -- before the superblock row that begins at `row`: what is left of the frame's calls from there on, on the lists as they are, is all of them on the lists as they were
+  pub record GoingOn (ends : List ℕ) (row : ℕ) (p q : Parts) : Type 0 where
+    pub on : row % side_of f ≡ 0
+    pub left : Going (rows_calls f traj holes planes ends (rows_of f - row / side_of f) (row / side_of f)) (frame_calls f traj holes planes ends) p q
+
+  pub rows_begin : (ends : List ℕ) (p : Parts) → GoingOn ends 0 p p
+  unfolding frame_calls
+  rows_begin ends p = let (on, z) = first_place f in record { on = on; left = rw (z, sub-zero) (going_first _ p) }
+
+  module _ (ends : List ℕ) (row n : ℕ) (p q o : Parts) where
+    rows_first : row < high_of f → row % side_of f ≡ 0 → rows_calls f traj holes planes ends (rows_of f - row / side_of f) (row / side_of f) ≡ row_calls f traj holes planes row 0 ends ++ rows_calls f traj holes planes ends (rows_of f - (row / side_of f + 1)) (row / side_of f + 1)
+    unfolding rows_calls
+    rows_first h r =
+        let w = row_place f row r in
+        let b = w.below h in
+        let e : rows_of f - row / side_of f ≡ suc (rows_of f - (row / side_of f + 1)) = omega arith in
+        rw (e, ← w.is)
+
+    pub rows_on : row < high_of f → after n (store_in q) ≡ until_refused (row_calls f traj holes planes row 0 ends) (store_in p) → n ≡ 0 → IsSameParts q p → GoingOn ends row p o → GoingOn ends (row + side_of f) q o
+    rows_on h l z k g =
+        let w = row_place f row g.on in
         record {
-          like = same_parts_after k g.like;
-          is = sym (ap (λ (cs : List Call). until_refused cs (store_in p)) (rows_first h r) ∙ past_first _ _ (store_in p) (store_in q) n l z) ∙ g.is;
+          on = w.next_on;
+          left = rw w.next (record {
+            like = same_parts_after k g.left.like;
+            is = sym (ap (λ (cs : List Call). until_refused cs (store_in p)) (rows_first h g.on) ∙ past_first _ _ (store_in p) (store_in q) n l z) ∙ g.left.is;
+          });
         }
 
-    pub rows_stop : i < rows_of f → row ≡ i * side_of f → after n (store_in q) ≡ until_refused (row_calls f traj holes planes row 0 ends) (store_in p) → (n ≡ 0 → ⊥)
-        → Going (rows_calls f traj holes planes ends (rows_of f - i) i) all p o → after n (store_in q) ≡ until_refused all (store_in o)
-    rows_stop h r l z g = sym (ap (λ (cs : List Call). until_refused cs (store_in p)) (rows_first h r) ∙ in_first _ _ (store_in p) (store_in q) n l z) ∙ g.is
+    pub rows_stop : row < high_of f → after n (store_in q) ≡ until_refused (row_calls f traj holes planes row 0 ends) (store_in p) → (n ≡ 0 → ⊥) → GoingOn ends row p o → after n (store_in q) ≡ until_refused (frame_calls f traj holes planes ends) (store_in o)
+    rows_stop h l z g = sym (ap (λ (cs : List Call). until_refused cs (store_in p)) (rows_first h g.on) ∙ in_first _ _ (store_in p) (store_in q) n l z) ∙ g.left.is
 
-  pub rows_end : (ends : List ℕ) (i : ℕ) (all : List Call) (p o : Parts) → rows_of f ≤ i → Going (rows_calls f traj holes planes ends (rows_of f - i) i) all p o → after 0 (store_in p) ≡ until_refused all (store_in o)
+  pub rows_end : (ends : List ℕ) (row : ℕ) (p o : Parts) → high_of f ≤ row → GoingOn ends row p o → after 0 (store_in p) ≡ until_refused (frame_calls f traj holes planes ends) (store_in o)
   unfolding rows_calls until_refused
-  rows_end ends i all p o h g = let e : rows_of f - i ≡ 0 = omega arith in (rw e at g.is)
-
--- the number of superblock rows, as code works it out
-rounded_up : (f : Frame) (h : ℕ) → h / side_of f + min 1 (h % side_of f) ≡ (h + (side_of f - 1)) / side_of f
-rounded_up f h = go (eqb f.sb128 0) (eqb f.sb128 1)
-  where
-    go : (p q : Bool) → let d : ℕ = cond p 8 (cond q 16 32) in h / d + min 1 (h % d) ≡ (h + (d - 1)) / d
-    go true q = omega arith
-    go false true = omega arith
-    go false false = omega arith
-
-pub rows_are : (f : Frame) (h d : ℕ) → h ≡ high_of f → d ≡ side_of f → h / d + min 1 (h % d) ≡ rows_of f
-rows_are f h d a b = rw (a, b) (rounded_up f (high_of f))
-
--- a superblock row begins in the frame
-row_low : (f : Frame) (i : ℕ) → i < rows_of f → i * side_of f + side_of f ≤ high_of f + (side_of f - 1)
-row_low f i h = omega (arith, row_within i (rows_of f) (side_of f) h, mul-div-le (high_of f + (side_of f - 1)) (side_of f), mul_comm (side_of f) (rows_of f))
-
-pub record Low (f : Frame) (i d : ℕ) : Type 0 where
-  pub row : i * d ≤ 65536
-  pub below : i < rows_of f
-  pub few : rows_of f ≤ 65536
-
-pub low : (f : Frame) (h d i : ℕ) → h ≡ high_of f → d ≡ side_of f → f.height ≤ 65536 → i < h / d + min 1 (h % d) → Low f i d
-low f h d i a b l k =
-    let below : i < rows_of f = rw (rows_are f h d a b) at k in
-    let e : i * d ≡ i * side_of f = ap (λ (n : ℕ). i * n) b in
-    record {
-      row = omega (arith, row_low f i below, side_low_lem f);
-      below = below;
-      few = omega (arith, div-le_self (high_of f + (side_of f - 1)) (side_of f), side_low_lem f);
-    }
+  rows_end ends row p o h g = let w = (row_place f row g.on).past h in let e : rows_of f - row / side_of f ≡ 0 = omega arith in (rw e at g.left.is)
 
 -- ---- the theorem
 

@@ -70,9 +70,7 @@ pub fn load_frame(
         ≡ until_refused (frame_calls setup.now traj holes planes.now ends.now) (store_of field.old trajectories.old maps.old) }
 {
     let side = checks::side_of(setup);
-    let rows = checks::high_of(setup).div_ceil(side);
-    // By number: a row of superblocks begins at a multiple of the side.
-    for i in 0..rows {
+    for row in (0..checks::high_of(setup)).step_by(side) {
         load_row(
             field,
             trajectories,
@@ -82,7 +80,7 @@ pub fn load_frame(
             traj,
             holes,
             ends,
-            i * side,
+            row,
         )?;
     }
     Ok(())
