@@ -34,6 +34,7 @@ use std::io::Write;
 type Reader = lines::Reader<16, 1024>;
 
 // Not the `End` of `replay_loads`: there a list may have no room, too, and what cannot be taken is told in other words.
+// And no `Result`: each of the three has a last line of the report, and none is an error of the program.
 /// How a line has ended the run.
 #[derive(Clone, Copy, Debug, PartialEq, Eq)]
 pub enum End {
