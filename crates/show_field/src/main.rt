@@ -28,6 +28,26 @@ pub enum Wanted {
     Picture,
 }
 
+/// The form that an argument names.
+impl TryFrom<&[u8]> for Wanted {
+    type Error = Problem;
+
+    ghost use Rattle.std.specs.Prelude.{◌≡◌};
+    ghost use Rattle.show_field.specs.Asked.{wanted_by};
+
+    ghost try_from_gives = { λ word r. r ≡ wanted_by word.now };
+
+    fn try_from(word: &[u8]) -> Result<Wanted, Problem> {
+        if word == b"text".as_slice() {
+            return Ok(Wanted::Text);
+        }
+        if word == b"picture".as_slice() {
+            return Ok(Wanted::Picture);
+        }
+        Err(Problem::Usage)
+    }
+}
+
 // count: how many arguments there are, with the program's own name; arg: the first after the name.
 #[tactic(auto, unfolding(crate::specs::Asked::asked))]
 fn wanted_of(count: usize, arg: &[u8]) -> Result<Wanted, Problem>
@@ -39,13 +59,7 @@ fn wanted_of(count: usize, arg: &[u8]) -> Result<Wanted, Problem>
     if 2 < count {
         return Err(Problem::Usage);
     }
-    if arg == b"text".as_slice() {
-        return Ok(Wanted::Text);
-    }
-    if arg == b"picture".as_slice() {
-        return Ok(Wanted::Picture);
-    }
-    Err(Problem::Usage)
+    Wanted::try_from(arg)
 }
 
 // Puts the first argument at the front of arg, and answers its length: 0 for one that is missing, or longer than arg.

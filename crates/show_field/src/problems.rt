@@ -32,7 +32,8 @@ pub enum Problem {
     NotWritten,
 }
 
-// The line of a message. Each put function appends its line, of at most 80 bytes, or nothing where there is none.
+// The line of a message. Each put function appends its line, of at most 80 bytes, or nothing where there is none. The
+// room for it is a clause of each: the buffer is lent, and of a fixed length (no heap).
 #[tactic(auto, unfolding(crate::specs::Lines::line))]
 fn put_message<const N: usize>(message: &[u8], out: &mut ArrayVec<u8, N>)
     requires short { length message.now ≤ 67 }

@@ -29,6 +29,8 @@ fn parts_of(wanted: Wanted, setup: &Frame) -> u32
     }
 }
 
+// That the buffer has room for a part is a clause of each function: it is lent, and of a fixed length (no heap). That the
+// field is of a file is one, too, and no ghost field of `View`: it names a file, and a ghost field's fact has one proof at most.
 impl<'f, 'c> View<'f, 'c> {
     // The lines of a row of cells.
     fn put_row_text<const N: usize>(&self, row: u32, out: &mut ArrayVec<u8, N>)
