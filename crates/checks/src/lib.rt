@@ -154,9 +154,9 @@ pub fn stride_of(setup: &Frame) -> usize
     (setup.width as usize).next_multiple_of(256) / 8
 }
 
-// The columns and rows are a tile's. Rows may be any number.
+/// Are the columns and rows a tile's? Rows may be any number.
 #[tactic(auto, unfolding(load::specs::Calls::tile_fits))]
-fn tile_fits(setup: &Frame, asked: Asked) -> bool
+pub fn tile_fits(setup: &Frame, asked: Asked) -> bool
     ensures { (p : List ℤ) → result ≡ tile_fits (call_of setup.now asked p) }
 {
     let side = side_of(setup);
