@@ -39,7 +39,8 @@ fn distance_or_skip(z: i8) -> bool
     (-32..=31).contains(&z)
 }
 
-// What a source says of a reference: its distance, its slot, the two factors.
+// What a source says of a reference: its distance, its slot, the two factors. Not the source and a place in its lists: that the place is
+// below 7 would be one more clause.
 fn entry_in_range(d: i8, idx: i8, sf0: i32, sf1: i32) -> bool
     ensures { result ≡ (leb (nat_abs d) 31 && within (negsuc 0) (pos 6) idx && leb (nat_abs sf0) 507904 && leb (nat_abs sf1) 507904) }
 {
@@ -399,6 +400,7 @@ fn trajs_in_range(traj_y: &[i32], traj_x: &[i32], n: usize) -> bool
     ok
 }
 
+// The trajectories' two lists, here and in `check_call`, and no Pairs of them: a Pairs is lent exclusively, and tests only read.
 /// Test 12: the sampled blocks of the superblock row, and the trajectories, are in range.
 #[tactic(auto, unfolding(tile::specs::Layout::row_cells))]
 pub fn check_contents(

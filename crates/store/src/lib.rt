@@ -29,6 +29,8 @@ fn set_all<T: Copy>(line: &mut [T], v: T)
     }
 }
 
+// Two lists and no struct, here and in `cell_at`: the field's and the trajectories' stand in structs of their own, of which a third would
+// be made for each call.
 /// The vector at a place of two lists, its y and its x.
 pub fn vector_at(y: &[i32], x: &[i32], at: usize) -> Mv
     requires y { at < length y.now }
@@ -48,6 +50,7 @@ pub fn cell_at(y: &[i32], x: &[i32], at: usize) -> Option<Mv>
     (!mv::is_empty(v)).then_some(v)
 }
 
+// y and x apart, where the lists may be of either type: a vector is an Mv, of `i32`, or a QMv, of `i8`.
 impl<'a, T: Copy> Pairs<'a, T> {
     /// The y and x at a place.
     pub fn at(&self, i: usize) -> (T, T)
