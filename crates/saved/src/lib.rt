@@ -30,7 +30,10 @@ pub fn block_at(part: &[i8], at: usize, dir: usize) -> Option<Block>
     ensures reference { IfSome result (λ b. b.reference < 7) }
     ensures vector { IfSome result (λ b. past_range b.mv ≡ false) }
 {
-    let reference = usize::try_from(part[at + 4 + dir]).ok()?;
+    // No `.ok()?`: both tests leave in the same way, as the definition has them.
+    let Ok(reference) = usize::try_from(part[at + 4 + dir]) else {
+        return None;
+    };
     let y = part[at + 2 * dir];
     if y == -128 {
         return None;
