@@ -10,7 +10,7 @@ use Rattle.std.specs.Str.{bytes_eq}
 use Rattle.cases.specs.declared.Verdict.{Verdict}
 use Rattle.cases.specs.declared.Verdict.TheVariants.{Agrees, Differs as Differing, NotACase as NoCase}
 use Rattle.cases.specs.Verdicts.{WhenAgrees}
-use Rattle.replay.specs.declared.End.TheVariants.{AllRead, Differs, NotACase}
+use Rattle.replay.specs.declared.End.TheVariants.{AllRead}
 use Rattle.replay.specs.declared.kinds.Kind.{Kind}
 use Rattle.replay.specs.declared.kinds.Kind.TheVariants.{Project, Scale, Quantize, Dequantize, Hint, Smooth, Gap, Frame}
 use Rattle.replay.specs.declared.kinds.UnknownKind.{UnknownKind}

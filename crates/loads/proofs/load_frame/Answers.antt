@@ -1,10 +1,10 @@
 -- `loads::load_frame` meets its contract. The invariant: what is left of the frame's calls, on the lists as they are, is all of them on the lists as they were (`GoingOn`). Assumes nothing.
-use Rattle.std.proofs.Common.{ap, refl, ℕ, ◌+◌, ◌<◌, arith, rules}
+use Rattle.std.proofs.Common.{refl, ◌<◌, arith, rules}
 use Rattle.levels.specs.Answer.{number_of}
 use Rattle.levels.proofs.Refusals.{number_pos}
 use Rattle.load.specs.Load.{high_of}
 use Rattle.sources.proofs.Rounds.{IsSameParts, parts}
-use Rattle.loads.proofs.Frame.{GoingOn, rows_begin, rows_on, rows_stop, rows_end}
+use Rattle.loads.proofs.Frame.{rows_begin, rows_on, rows_stop, rows_end}
 use Rattle.loads.proofs.load_frame.Goals.{After-load_row}
 use Rattle.loads.proofs.load_frame.Goals as goal
 
