@@ -1,5 +1,5 @@
 -- Laws of lists that are copied out of a line's numbers. Assumes nothing.
-use Rattle.std.proofs.Common.{List, ◌≡◌, refl, sym, ap, ◌∙◌, ℕ, ◌+◌, ◌≤◌, ◌<◌, arith, w8, w32, SFits, ℤ, pos, negsuc, nat_abs, length, Some, slice_get, get_or, take, get_or-take, length-take-le}
+use Rattle.std.proofs.Common.{List, ◌≡◌, refl, sym, ap, ◌∙◌, ℕ, ◌+◌, ◌≤◌, ◌<◌, arith, ℤ, pos, negsuc, nat_abs, length, Some, slice_get, get_or, take, get_or-take, length-take-le}
 use Rattle.std.proofs.lemmas.Option.{slice_get-get_or}
 use Rattle.std.specs.Int.{FitsUnsignedBits}
 use Rattle.cases.specs.Numbers.{at}
