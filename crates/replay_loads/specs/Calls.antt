@@ -1,5 +1,5 @@
 -- What replay_loads makes of a line: a call is counted only if a `check` line finds that it agrees. Assumes nothing.
-use Rattle.std.specs.Prelude.{◌≡◌, ℕ, ◌+◌, ◌%◌, ◌^◌, ◌<◌, ◌≤◌, Bool, true, cond, ◌&&◌, List, length, replicate, ℤ, Option, Some, None, is_none, ◌==◌, ◌≢◌, slice_index, unsigned_abs}
+use Rattle.std.specs.Prelude.{◌≡◌, ℕ, ◌+◌, ◌%◌, ◌^◌, ◌<◌, ◌≤◌, Bool, true, cond, ◌&&◌, List, length, replicate, ℤ, Option, Some, None, is_none, IsSomeAnd, ⊤, ◌==◌, ◌≢◌, slice_index, unsigned_abs}
 use Rattle.cases.specs.declared.Verdict.{Verdict}
 use Rattle.cases.specs.declared.Verdict.TheVariants.{Agrees, Differs as Differing, NotACase}
 use Rattle.cases.specs.Numbers.{at, is_on, IsSize}
@@ -11,7 +11,7 @@ use Rattle.replay_loads.specs.declared.asked.Asked.TheVariants.{Call as ACall, P
 use Rattle.replay_loads.specs.declared.book.Waiting.{Waiting}
 use Rattle.replay_loads.specs.declared.book.Book.{Book}
 use Rattle.replay_loads.specs.declared.book.End.{End}
-use Rattle.replay_loads.specs.declared.book.End.TheVariants.{AllTaken, Differs, NotALine}
+use Rattle.replay_loads.specs.declared.book.End.TheVariants.{AllTaken, Differs, NotALine, NoRoom}
 use Rattle.replay_loads.specs.declared.lists.Lists.{Lists as TheLists}
 use Rattle.replay_loads.specs.declared.words.Word.{Word}
 use Rattle.replay_loads.specs.declared.words.Word.TheVariants.{Case, Setup, Set, Call, Changed, Check, Pass}
@@ -97,10 +97,17 @@ pub record MayCheck (b : Book) (n setup : List ℤ) (c : Waiting) : Type 0 where
   pub is_set_up : b.setup ≡ Some setup
   pub all_named : IsSize (at n 0) → c.changed ≡ unsigned_abs (at n 0)
 
+-- a line may end the run so: not as one that has taken all, and at a difference only of the call that waits
+abbrev pub MayEnd : End → Book → Type 0
+MayEnd AllTaken b = ⊥
+MayEnd (Differs l a) b = IsSomeAnd b.call (λ c. (l ≡ c.line) × (a ≡ c.asked))
+MayEnd NotALine b = ⊤
+MayEnd NoRoom b = ⊤
+
 -- what a `check` line leaves: the call has agreed and is counted, and the lists are the wanted ones; or the run ends, not as one that has taken all, and nothing is counted
 pub data Checked (b : Book) (n : List ℤ) (x y : TheLists) (before after : List ℕ) (r : Book) : Type 0 where
   counts : {setup : List ℤ} {c : Waiting} → MayCheck b n setup c → CaseAgrees b.lengths x.cells x.want setup (numbers c.asked) → after ≡ counted_up (number (kind_of c.asked)) before → y.cells ≡ x.want → y.want ≡ x.want → r ≡ checked b → Checked b n x y before after r
-  stops : {why : End} → (why ≢ AllTaken) → after ≡ before → r ≡ ended why b → y.want ≡ x.want → Checked b n x y before after r
+  stops : {why : End} → MayEnd why b → after ≡ before → r ≡ ended why b → y.want ≡ x.want → Checked b n x y before after r
 
 -- the first k lists have the lengths that a `case` line states
 abbrev pub LengthsStated : ℕ → List ℤ → List ℕ → Type 0
@@ -113,7 +120,7 @@ LengthsFit k lengths = (i : ℕ) → i < k → start_of i + slice_index lengths 
 -- what a `case` line leaves of the book, where no call waits for its check: a new one, with the lengths that it states, for which there is room; or the run ends, not as one that has taken all
 pub data CaseLeaves (b : Book) (n : List ℤ) (r : Book) : Type 0 where
   opens : is_free b ≡ true → length n ≡ 9 → r.ended ≡ None → r.setup ≡ None → r.call ≡ None → LengthsStated 8 n r.lengths → LengthsFit 8 r.lengths → CaseLeaves b n r
-  opens_none : {why : End} → (why ≢ AllTaken) → r ≡ ended why b → CaseLeaves b n r
+  opens_none : {why : End} → MayEnd why b → r ≡ ended why b → CaseLeaves b n r
 
 -- elements were named as changed, d since the call c
 abbrev pub named : ℕ → Waiting → Book → Book

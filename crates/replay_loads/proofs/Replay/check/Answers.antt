@@ -1,11 +1,11 @@
 use Rattle.std.proofs.Common.{refl}
 use Rattle.replay_loads.specs.declared.book.End.TheVariants.{NotALine}
 use Rattle.replay_loads.specs.Calls.{stops, MayCheck}
-use Rattle.replay_loads.proofs.Laws.{not_a_line, checked_as}
+use Rattle.replay_loads.proofs.Laws.{checked_as}
 use Rattle.replay_loads.proofs.Replay.check.Goals as goal
 
 pub returns-in_default : goal.returns-in_default
-returns-in_default c = stops {why = NotALine} not_a_line refl c.end.ensures refl
+returns-in_default c = stops {why = NotALine} tt refl c.end.ensures refl
 
 pub returns : goal.returns
 returns c =
