@@ -5,7 +5,7 @@ use Rattle.std.proofs.Math.Bool.{beq}
 use lib.Signed.{lt_z, le_z}
 use Rattle.intops.proofs.Signed.{signed}
 use Rattle.levels.specs.declared.Refusal.{Refusal}
-use Rattle.frame.specs.Frame.{refused_if}
+use Rattle.levels.specs.Answer.{refused_if}
 use Rattle.checks.specs.Answer.{Tests}
 
 pub le_not : (a b : ℤ) → le_z a b ≡ not (lt_z b a)

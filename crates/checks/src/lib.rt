@@ -1,7 +1,7 @@
 // The tests that a load begins with, in their order: refusals 9 to 12.
 #![tactic(auto)]
 
-ghost use Rattle.std.specs.Prelude.{◌≡◌, Bool, true, cond, ◌&&◌, List, [], ◌+◌, ◌-◌, ◌*◌, ◌/◌, ◌≤◌, ◌<◌, leb, ℤ, pos, negsuc, nat_abs, length, get_or, MatchResult};
+ghost use Rattle.std.specs.Prelude.{◌≡◌, ℕ, Bool, true, cond, ◌&&◌, List, [], ◌+◌, ◌-◌, ◌*◌, ◌/◌, ◌≤◌, ◌<◌, leb, ℤ, pos, negsuc, nat_abs, length, get_or, MatchResult};
 ghost use Rattle.levels.specs.Answer.{number_of};
 ghost use Rattle.frame.specs.Frame.{no_source};
 ghost use Rattle.store.specs.Store.{Store, pack, vec, with_traj};
@@ -11,7 +11,7 @@ ghost use Rattle.traj.specs.Traj.{traj_in_range};
 ghost use Rattle.field.specs.Lent.{store_of};
 ghost use Rattle.project.specs.Project.{saved_ref, saved_mv};
 ghost use Rattle.project.specs.Tested.{all_below, within, entry_in_range, source_in_range, block_fine};
-ghost use Rattle.load.specs.Asked.{asked_of, call_of};
+ghost use Rattle.load.specs.Asked.{asked_of, switched, call_of};
 ghost use Rattle.load.specs.Load.{side_of, block_of, edge_of, wide_of, high_of, stride_of, tile_of};
 ghost use Rattle.load.specs.Calls.{setup_in_range, tile_fits, long_enough, contents_fine, answer};
 ghost use Rattle.checks.specs.Answer.{Tests, MakesTile, AnswersCall};
@@ -19,8 +19,8 @@ ghost use Rattle.checks.specs.Code.{AreLengths, PlanesHeld, line_fine, is_fine, 
 
 use entry::Source;
 use field::Field;
-use frame::{Frame, Sources, refused_if};
-use levels::{Mv, Refusal};
+use frame::{Frame, Sources};
+use levels::{Mv, Refusal, refused_if};
 use load::Asked;
 use store::Pairs;
 use tile::Tile;
@@ -158,7 +158,7 @@ pub fn stride_of(setup: &Frame) -> usize
 /// Are the columns and rows a tile's? Rows may be any number.
 #[tactic(auto, unfolding(load::specs::Calls::tile_fits))]
 pub fn tile_fits(setup: &Frame, asked: Asked) -> bool
-    ensures { (p : List ℤ) → result ≡ tile_fits (call_of setup.now asked p) }
+    ensures { (w t h : Bool) (p : List ℤ) → result ≡ tile_fits (call_of setup.now (asked_of w t h asked.col_start asked.col_end asked.row_start asked.row_end) p) }
 {
     let side = side_of(setup);
     let wide = wide_of(setup);
@@ -182,7 +182,7 @@ pub fn tile_fits(setup: &Frame, asked: Asked) -> bool
 
 /// Test 10: the columns and rows are a tile's. Rows may be any number.
 pub fn check_tile(setup: &Frame, asked: Asked) -> Result<(), Refusal>
-    ensures { (p : List ℤ) → Tests (tile_fits (call_of setup.now asked p)) Refusal.TileOutOfRange result }
+    ensures { (w t h : Bool) (p : List ℤ) → Tests (tile_fits (call_of setup.now (asked_of w t h asked.col_start asked.col_end asked.row_start asked.row_end) p)) Refusal.TileOutOfRange result }
 {
     refused_if(!tile_fits(setup, asked), Refusal::TileOutOfRange)
 }
@@ -198,11 +198,11 @@ fn first_row(asked: Asked) -> usize
     }
 }
 
-/// The tile that a load is asked for, which passes tests 9 and 10. Its numbers don't depend on the load's switches.
+/// The tile that a load is asked for, which passes tests 9 and 10. Its numbers don't depend on `traj` and `holes`.
 pub fn tile_of(setup: &Frame, asked: Asked) -> Tile
     requires setup { setup_in_range setup.now ≡ true }
     requires tile { tile_fits (call_of setup.now asked []) ≡ true }
-    ensures { (traj holes : Bool) (p : List ℤ) → geometry result ≡ tile_of (call_of setup.now (asked_of asked.whole_frame traj holes asked.col_start asked.col_end asked.row_start asked.row_end) p) }
+    ensures { (traj holes : Bool) (p : List ℤ) → geometry result ≡ tile_of (call_of setup.now (switched traj holes asked) p) }
 {
     let stride = stride_of(setup);
     let high = high_of(setup);
@@ -225,7 +225,7 @@ pub fn tile_of(setup: &Frame, asked: Asked) -> Tile
 /// The same where tests 9 and 10 pass, else the refusal of the first that doesn't.
 #[tactic(auto, unfolding(load::specs::Calls::answer))]
 pub fn try_tile_of(setup: &Frame, asked: Asked) -> Result<Tile, Refusal>
-    ensures { (p : List ℤ) → MakesTile (call_of setup.now asked p) result }
+    ensures { (traj holes : Bool) (p : List ℤ) → MakesTile (call_of setup.now (switched traj holes asked) p) result }
 {
     check_setup(setup)?;
     check_tile(setup, asked)?;
@@ -285,8 +285,8 @@ pub fn check_lengths(
     traj_x: usize,
     lengths: Lengths,
 ) -> Result<(), Refusal>
-    ensures { (p : List ℤ) (s : Store) → length p ≡ planes → length s.traj_y ≡ traj_y → length s.traj_x ≡ traj_x → AreLengths lengths s
-        → Tests (long_enough (call_of setup.now asked p) s) Refusal.TooShort result }
+    ensures { (t h : Bool) (a b c d : ℕ) (p : List ℤ) (s : Store) → length p ≡ planes → length s.traj_y ≡ traj_y → length s.traj_x ≡ traj_x → AreLengths lengths s
+        → Tests (long_enough (call_of setup.now (asked_of asked.whole_frame t h a b c d) p) s) Refusal.TooShort result }
 {
     let stride = stride_of(setup);
     let cells = field_rows(setup, asked.whole_frame) * stride;
@@ -400,8 +400,9 @@ fn trajs_in_range(traj_y: &[i32], traj_x: &[i32], n: usize) -> bool
     ok
 }
 
-// The trajectories' two lists, here and in `check_call`, and no Pairs of them: a Pairs is lent exclusively, and tests only read.
 /// Test 12: the sampled blocks of the superblock row, and the trajectories, are in range.
+// The trajectories' two lists, here and in `check_call`, and no Pairs of them: a Pairs is made of lists that are lent exclusively, and callers
+// may have these shared (`check_load` is for a Pairs).
 #[tactic(auto, unfolding(tile::specs::Layout::row_cells))]
 pub fn check_contents(
     setup: &Frame,
@@ -432,8 +433,8 @@ pub fn check_call(
     traj_x: &[i32],
     lengths: Lengths,
 ) -> Result<Tile, Refusal>
-    ensures { (s : Store) → AreLengths lengths s
-        → AnswersCall (call_of setup.now asked planes.now) (with_traj s traj_y.now traj_x.now s.map_y s.map_x) result }
+    ensures { (traj holes : Bool) (s : Store) → AreLengths lengths s
+        → AnswersCall (call_of setup.now (switched traj holes asked) planes.now) (with_traj s traj_y.now traj_x.now s.map_y s.map_x) result }
 {
     let t = try_tile_of(setup, asked)?;
     check_lengths(

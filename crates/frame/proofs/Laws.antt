@@ -14,7 +14,7 @@ use Rattle.picks.specs.declared.Pocs.{Pocs}
 use Rattle.picks.specs.declared.Picks.{Picks}
 use Rattle.picks.specs.declared.MfmvRef.{MfmvRef}
 use Rattle.levels.specs.declared.Refusal.{Refusal}
-use Rattle.levels.specs.Answer.{number_of}
+use Rattle.levels.specs.Answer.{number_of, refused_if}
 use Rattle.levels.proofs.Refusals.{number_pos}
 use Rattle.picks.specs.Hints.{hint_of, hints_refusal}
 use Rattle.picks.proofs.Laws.{side_valid, earlier_valid, later_valid}
@@ -27,7 +27,7 @@ use Rattle.levels.specs.declared.Slot.{Slot}
 use Rattle.levels.specs.Slots.{slot, slot_at}
 use Rattle.picks.specs.Picks.{Valid, Slots, pushed, offered, with_side, nearer_earlier, in_turn, round, neighbours, nth_earlier, nth_later, nearest, both_ways, from_end, rest}
 use Rattle.refs.specs.Refs.{links_of, diffs, signs}
-use Rattle.frame.specs.Frame.{Fine, Pickable, leading, no_pick, both, no_source, started, tip_pick, tip_put, tip_add, with_tip, picked, tip_diff, in_byte, tip_with, tip_of, slot_of, refusal_of, refused_if, frame_of, zero_frame, setup_of}
+use Rattle.frame.specs.Frame.{Fine, Pickable, leading, no_pick, both, no_source, started, tip_pick, tip_put, tip_add, with_tip, picked, tip_diff, in_byte, tip_with, tip_of, slot_of, refusal_of, frame_of, zero_frame, setup_of}
 
 -- how many slots at the head of a list have their sign set
 unfoldable pub lead : List Bool → List Slot → ℕ

@@ -158,10 +158,6 @@ tip_of h mode both a b =
 
 -- ---- the refusals
 
--- what a test answers: its refusal where the header is bad
-abbrev pub refused_if : Bool → Refusal → Result ⊤ Refusal
-refused_if bad e = cond bad (Err e) (Ok tt)
-
 -- refusal 5: above 2
 unfoldable pub bad_superblock : ℕ → Bool
 bad_superblock n = ltb 2 n

@@ -2,12 +2,13 @@
 #![tactic(auto)]
 
 ghost use Rattle.std.specs.Prelude.{◌≡◌, ◌≤◌, ◌<◌, ◌||◌, length};
+ghost use Rattle.levels.specs.Answer.{refused_if};
 ghost use Rattle.picks.specs.Picks.{Slots};
 ghost use Rattle.refs.specs.Refs.{signs, diffs};
-ghost use Rattle.frame.specs.Frame.{leading, started, tip_pick, tip_add, with_tip, picked, Fine, source_at, filled, slot_of, sources_of, tip_diff, in_byte, tip_of, looks_at_tip, not_in_use, bad_tip, bad_size, bad_step, bad_superblock, refused_if, frame_of, zero_frame, no_source, no_sources, used, mask_of, says_setup, setup_of};
+ghost use Rattle.frame.specs.Frame.{leading, started, tip_pick, tip_add, with_tip, picked, Fine, source_at, filled, slot_of, sources_of, tip_diff, in_byte, tip_of, looks_at_tip, not_in_use, bad_tip, bad_size, bad_step, bad_superblock, frame_of, zero_frame, no_source, no_sources, used, mask_of, says_setup, setup_of};
 
 use entry::Source;
-use levels::{Refusal, Slot};
+use levels::{Refusal, Slot, refused_if};
 use picks::{FrameHints, Hints, MfmvRef, Picks, Pocs, Sorted};
 use std::array;
 
@@ -114,7 +115,7 @@ impl Compared {
     }
 }
 
-// A source that is not there, and no pick either.
+// What stands in a list of picks where none is.
 const NO_PICK: MfmvRef = MfmvRef {
     reference: Slot(0),
     tgt: Some(Slot(0)),
@@ -289,8 +290,7 @@ fn tip_slot(t: i8) -> Slot
     if t < 0 || 6 < t {
         Slot(0)
     } else {
-        // `as`, as no From goes from i8 to u8: t is 0 to 6 here.
-        Slot(t as u8)
+        Slot(t.cast_unsigned())
     }
 }
 
@@ -370,16 +370,6 @@ pub fn bad_size(n: u32) -> bool
     ensures { result ≡ bad_size n }
 {
     n == 0 || 65536 < n
-}
-
-/// What a test answers: its refusal where what is tested is bad.
-pub fn refused_if(bad: bool, why: Refusal) -> Result<(), Refusal>
-    ensures { result ≡ refused_if bad why }
-{
-    if bad {
-        return Err(why);
-    }
-    Ok(())
 }
 
 // Refusal 5.

@@ -9,7 +9,7 @@ ghost use Rattle.intops.specs.Bits.{highest_bit};
 ghost use Rattle.intops.specs.Rounding.{round_div};
 
 /// The greater of two numbers.
-// This, imin, umax, unsigned_abs and ulog2 are std's `max`, `min`, `unsigned_abs` and `ilog2` by the names of intops.rs, under which other code may call them.
+// This, imin, umax, unsigned_abs and ulog2 are std's `max`, `min`, `unsigned_abs` and `ilog2` by the names of intops.rs: the module is carried over function by function.
 pub fn imax(a: i32, b: i32) -> i32
     ensures { result ≡ max_z a b }
 {
@@ -31,7 +31,7 @@ pub fn umax(a: u32, b: u32) -> u32
 }
 
 /// The number v, or the bound that it is past: min where it is below min, else max where it is above max.
-// This and iclip64to32 are not `clamp`, which asks for min <= max: here crossed bounds have an answer too. Callers whose bounds are constants take it as well, as the Rust does.
+// This and iclip64to32 are not `clamp`, which asks for min <= max: here crossed bounds have an answer too. Callers whose bounds are constants take it as well: function by function they call what the Rust calls.
 pub fn iclip(v: i32, min: i32, max: i32) -> i32
     ensures { result ≡ clip_z «min» «max» v }
 {

@@ -1,5 +1,5 @@
 -- What an answer says: the refusal's number, 0 for none, and the value. Assumes nothing.
-use Rattle.std.specs.Prelude.{ℕ, pos, Result, Ok, Err}
+use Rattle.std.specs.Prelude.{ℕ, pos, Bool, cond, ⊤, Result, Ok, Err}
 use Rattle.levels.specs.declared.Mv.{Mv}
 use Rattle.levels.specs.declared.Refusal.{Refusal}
 use Rattle.levels.specs.declared.Refusal.TheVariants.{VectorOutOfRange, HalfMark, TooManyBits, TooManySlots, BadSuperblock, BadStep, BadSize, BadTipSlot, SetupOutOfRange, TileOutOfRange, TooShort, ContentsOutOfRange}
@@ -23,6 +23,10 @@ number_of ContentsOutOfRange = 12
 abbrev pub refusal_of : {A : Type 0} → Result A Refusal → ℕ
 refusal_of (Ok a) = 0
 refusal_of (Err e) = number_of e
+
+-- what a test answers: its refusal where what is tested is bad
+abbrev pub refused_if : Bool → Refusal → Result ⊤ Refusal
+refused_if bad e = cond bad (Err e) (Ok tt)
 
 -- of an answer on vectors: the refusal's number, 0 for none, and the vector
 pub record Said : Type 0 where

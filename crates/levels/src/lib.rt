@@ -2,14 +2,14 @@
 #![tactic(auto)]
 
 ghost use Rattle.std.specs.Prelude.{◌≡◌, ◌<◌};
-ghost use Rattle.levels.specs.Answer.{number_of};
+ghost use Rattle.levels.specs.Answer.{number_of, refused_if};
 ghost use Rattle.levels.specs.Slots.{slot};
 
 use std::fmt;
 
 /// A motion vector, y first. It is empty where y is `INVALID_MV`; (0, 0) is a still cell.
 // No type of vectors that are in range, or not empty: the store's lists hold any numbers, and the definitions make vectors, so that each would carry a proof. Functions
-// ask for it (`past_range`, `is_empty`), and a read that may find an empty one answers an Option (`Pairs::cell`, `Field::cell`).
+// ask for it (`past_range`, `is_empty`). A read answers an Option where an empty one is a case of its own (`Pairs::cell`, `Field::cell`), else the vector.
 #[repr(C)]
 #[derive(Clone, Copy, PartialEq, Eq, Debug)]
 pub struct Mv {
@@ -106,9 +106,19 @@ impl Refusal {
     pub fn number(self) -> u8
         ensures { result ≡ number_of self }
     {
-        // `as`: a variant's number is no type's value that a From would be of.
+        // `as`: the From below is made of this function.
         self as u8
     }
+}
+
+/// What a test answers: its refusal where what is tested is bad.
+pub fn refused_if(bad: bool, why: Refusal) -> Result<(), Refusal>
+    ensures { result ≡ refused_if bad why }
+{
+    if bad {
+        return Err(why);
+    }
+    Ok(())
 }
 
 impl From<Refusal> for u8 {

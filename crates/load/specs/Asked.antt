@@ -17,6 +17,10 @@ asked_of w t h a b c d =
       row_end = d;
     }
 
+-- the same with these switches
+abbrev pub switched : Bool → Bool → Asked → Asked
+switched t h a = asked_of a.whole_frame t h a.col_start a.col_end a.row_start a.row_end
+
 -- the call with a setup and the planes
 abbrev pub call_of : Frame → Asked → List ℤ → Call
 call_of f a p =

@@ -3,7 +3,7 @@
 
 /// What a load of a tile is asked for, besides the frame's setup and the saved planes.
 /// Columns and rows are counted in cells of 8 x 8 pixels, and an end is not included.
-// Setup and planes stand beside it as parameters, and the three are no struct: the tests and the passes below take one or two of them, and the entry for C has them apart.
+// Setup and planes stand beside it as parameters, and the three are no struct: the single tests and the passes take one or two of them, and the entry for C has them apart.
 // Starts and ends, and no Range of both: a Range is not Copy, and this goes down by value.
 #[derive(Clone, Copy)]
 pub struct Asked {

@@ -318,11 +318,11 @@ impl Picks {
     }
 }
 
-/// The sorted slots: the rest of the seven is zero.
+/// Seven slots in the order in which neighbours are looked for. That they are sorted is not asked.
 #[derive(Clone, Copy)]
 pub struct Sorted {
     pub order: [Slot; 7],
-    /// How many of them are earlier than the frame, the first ones.
+    /// How many stand before the frame, the first ones.
     pub first: usize,
     ghost few: { first ≤ 7 },
     ghost slots: { Slots order },

@@ -1,7 +1,8 @@
 // What a vector leaves where it lands: a field cell, trajectories, their ends in the maps.
 #![tactic(auto)]
 
-ghost use Rattle.std.specs.Prelude.{◌≡◌, true, false, ◌+◌, ◌/◌, ◌<◌};
+ghost use Rattle.std.specs.Prelude.{◌≡◌, true, false, ℕ, ◌+◌, ◌/◌, ◌<◌};
+ghost use Rattle.entry.specs.declared.Source.{Source};
 ghost use Rattle.mv.specs.Projection.{past_range};
 ghost use Rattle.store.specs.Lent.{IsSamePairs, with_trajs, stored_trajs};
 ghost use Rattle.store.specs.Store.{Store, trajs};
@@ -14,6 +15,7 @@ ghost use Rattle.field.specs.Lent.{IsHeld, IsSameField, store_of};
 ghost use Rattle.traj.specs.Traj.{clipped};
 ghost use Rattle.project.specs.Project.{to_source, put_trajs, put_mv};
 ghost use Rattle.landing.specs.Code.{Landing};
+ghost use Rattle.landing.specs.Entries.{SaysSame};
 
 use field::Field;
 use intersect::Place;
@@ -68,7 +70,8 @@ fn put_trajs(
 
 /// A vector saved at `from` that landed at `to` goes there where the cell takes it, with its
 /// trajectories where they are on. `w` is the vector as a trajectory of the source's own slot, which
-/// the caller has found the landing by.
+/// the caller has found the landing by. What else the source says, of the frame and of other
+/// references, is not read.
 pub fn put_mv(
     field: &mut Field<'_>,
     trajectories: &mut Pairs<'_, i32>,
@@ -89,8 +92,8 @@ pub fn put_mv(
     ensures same_field { IsSameField field.new field.old }
     ensures same_trajectories { IsSamePairs trajectories.new trajectories.old }
     ensures same_maps { IsSamePairs maps.new maps.old }
-    ensures stored { w ≡ to_source e.now.entry.source.now e.now.entry.reference v → store_of field.new trajectories.new maps.new
-        ≡ run (owns (geometry t.now)) (put_mv (geometry t.now) traj e.now.entry.source.now e.now.entry.reference v from.y from.x to.y to.x)
+    ensures stored { (u : Source) (b : ℕ) → SaysSame v u b e.now.entry.source.now e.now.entry.reference → w ≡ to_source u b v → store_of field.new trajectories.new maps.new
+        ≡ run (owns (geometry t.now)) (put_mv (geometry t.now) traj u b v from.y from.x to.y to.x)
         (store_of field.old trajectories.old maps.old) }
 {
     let at = t.field_at(to.y, to.x);

@@ -29,9 +29,9 @@ fn set_all<T: Copy>(line: &mut [T], v: T)
     }
 }
 
+/// The vector at a place of two lists, its y and its x.
 // Two lists and no struct, here and in `cell_at`: the field's and the trajectories' stand in structs of their own, of which a third would
 // be made for each call.
-/// The vector at a place of two lists, its y and its x.
 pub fn vector_at(y: &[i32], x: &[i32], at: usize) -> Mv
     requires y { at < length y.now }
     requires x { at < length x.now }

@@ -14,10 +14,10 @@ pub use numbers::Tile;
 pub use visits::{Pass, SampledCell, walk};
 
 impl Tile {
-    // Row and column, and no struct of both, here and in each function of a cell in the crates above: most callers work out one of them at
-    // the call, as `y + 2` beside `x`, so that a struct would be made there to be taken apart here.
     /// The place of a field cell of the superblock row: its rows begin at the tile's, so none is
     /// divided.
+    // Row and column, and no struct of both, here and in the passes of `holes`, `gaps`, `smooth` and `traj`: they work out one of them at the call, as
+    // `y + 2` beside `x`. Where a place goes down through several functions it is a `Place`, of `intersect`.
     #[tactic(auto, using(crate::proofs::Places::field_is))]
     pub fn field_at(&self, y: usize, x: usize) -> usize
         requires from { self.now.top ≤ y }
@@ -60,7 +60,7 @@ impl Tile {
     }
 
     /// How many sampled rows or columns there are from `a` up to `b`.
-    // By cases, and no division by the step, here, in `row_of` and in `on_step`: as for the blocks, the compiler cannot know what it is.
+    // By cases of the step here and in `on_step`, of the side in `row_of`, and no division by either: as for the blocks, the compiler cannot know what it is.
     pub fn count(&self, a: usize, b: usize) -> usize
         requires order { a ≤ b }
         requires low { b ≤ 16384 }
@@ -141,9 +141,9 @@ impl Tile {
         self.map_in(k, n, self.place_at(y, x))
     }
 
+    /// Does column `b` lie in the window of column `a`'s block?
     // Not one function with `same_rows` and `near_source` of landing: the three windows differ in the edge and in where the frame cuts them,
     // so that of each a call would be left that hands over both, and is no shorter.
-    /// Does column `b` lie in the window of column `a`'s block?
     #[tactic(auto, using(crate::proofs::Places::start_low), unfolding(crate::specs::Layout::near_col))]
     pub fn near_col(&self, a: usize, b: usize) -> bool
         requires { a < 2 ^ 40 }
@@ -185,9 +185,9 @@ pub fn cells_of(v: i32) -> i32
     v / 64
 }
 
+/// Is there a row or column `d` cells on?
 // Apart from `moved_by`, and no Option of both: callers join the tests of two components and of a window into one value, and an Option of
 // each would be taken apart first. `end_at` of intersect and `back_at` of landing take the number where they do not ask for the test.
-/// Is there a row or column `d` cells on?
 pub fn is_there(x: usize, d: i32) -> bool
     requires { x < 2 ^ 32 }
     ensures { result ≡ there x d }

@@ -5,7 +5,7 @@ use Rattle.levels.specs.Answer.{number_of}
 use Rattle.store.specs.Store.{Store, pack, with_traj}
 use Rattle.tile.specs.Geometry.{Geometry}
 use Rattle.tile.specs.Sound.{TrajHeld}
-use Rattle.load.specs.Asked.{call_of}
+use Rattle.load.specs.Asked.{switched, call_of}
 use Rattle.load.specs.Load.{Call, tile_of}
 use Rattle.load.specs.Calls.{long_enough, answer}
 use Rattle.load.proofs.Held.{long, traj_held}
@@ -41,40 +41,40 @@ also : (l : Lengths) (s : Store) (ty tx : List ℤ) → AreLengths l s → AreLe
 also l s ty tx k = record { field_y = k.field_y; field_x = k.field_x; field_ref = k.field_ref; map_y = k.map_y; map_x = k.map_x }
 
 pub check_contents-requires-clause-setup : goal.check_contents-requires-clause-setup
-check_contents-requires-clause-setup c = (c.in_ok-t.ensures c.args.planes.now).0
+check_contents-requires-clause-setup c = (c.in_ok-t.ensures c.args.asked.traj c.args.asked.holes c.args.planes.now).0
 
 pub check_contents-requires-clause-planes : goal.check_contents-requires-clause-planes
 check_contents-requires-clause-planes c =
     let b = (goal.at.check_contents-requires-clause-planes c).Start in let a = c.args in let p = a.planes.now in
-    (held (call_of a.setup.now a.asked p) (some b) _ (c.in_ok-t.ensures p).2 (c.in_ok-check_lengths.ensures p (some b) refl refl refl (some_long b))).0
+    (held (call_of a.setup.now a.asked p) (some b) _ (c.in_ok-t.ensures a.asked.traj a.asked.holes p).2 (c.in_ok-check_lengths.ensures a.asked.traj a.asked.holes a.asked.col_start a.asked.col_end a.asked.row_start a.asked.row_end p (some b) refl refl refl (some_long b))).0
 
 pub check_contents-requires-clause-held : goal.check_contents-requires-clause-held
 check_contents-requires-clause-held c =
     let b = (goal.at.check_contents-requires-clause-held c).Start in let a = c.args in let p = a.planes.now in
-    (held (call_of a.setup.now a.asked p) (some b) _ (c.in_ok-t.ensures p).2 (c.in_ok-check_lengths.ensures p (some b) refl refl refl (some_long b))).1
+    (held (call_of a.setup.now a.asked p) (some b) _ (c.in_ok-t.ensures a.asked.traj a.asked.holes p).2 (c.in_ok-check_lengths.ensures a.asked.traj a.asked.holes a.asked.col_start a.asked.col_end a.asked.row_start a.asked.row_end p (some b) refl refl refl (some_long b))).1
 
 pub returns-in_err-check_lengths : goal.returns-in_err-check_lengths
 unfolding answer
-returns-in_err-check_lengths c = λ s k.
+returns-in_err-check_lengths c = λ traj holes s k.
     let a = c.args in let p = a.planes.now in let u = with_traj s a.traj_y.now a.traj_x.now s.map_y s.map_x in
-    let t = c.in_ok-t.ensures p in
-    let d = c.in_err-check_lengths.ensures p u refl refl refl (also a.lengths s a.traj_y.now a.traj_x.now k) in
-    let e : number_of c.in_err-check_lengths.field-0.0 ≡ answer (call_of a.setup.now a.asked p) u = rw (d.0, t.0, t.1, d.1) in
+    let q = switched traj holes a.asked in let t = c.in_ok-t.ensures traj holes p in
+    let d = c.in_err-check_lengths.ensures traj holes a.asked.col_start a.asked.col_end a.asked.row_start a.asked.row_end p u refl refl refl (also a.lengths s a.traj_y.now a.traj_x.now k) in
+    let e : number_of c.in_err-check_lengths.field-0.0 ≡ answer (call_of a.setup.now q p) u = rw (d.0, t.0, t.1, d.1) in
     search rules
 
 pub returns-in_err-check_contents : goal.returns-in_err-check_contents
 unfolding answer
-returns-in_err-check_contents c = λ s k.
+returns-in_err-check_contents c = λ traj holes s k.
     let a = c.args in let p = a.planes.now in let u = with_traj s a.traj_y.now a.traj_x.now s.map_y s.map_x in
-    let t = c.in_ok-t.ensures p in
-    let d = c.in_err-check_contents.ensures a.asked s (sym t.2) in
-    let e : number_of c.in_err-check_contents.field-0.0 ≡ answer (call_of a.setup.now a.asked p) u
-    = rw (d.0, t.0, t.1, c.in_ok-check_lengths.ensures p u refl refl refl (also a.lengths s a.traj_y.now a.traj_x.now k), d.1) in
+    let q = switched traj holes a.asked in let t = c.in_ok-t.ensures traj holes p in
+    let d = c.in_err-check_contents.ensures q s (sym t.2) in
+    let e : number_of c.in_err-check_contents.field-0.0 ≡ answer (call_of a.setup.now q p) u
+    = rw (d.0, t.0, t.1, c.in_ok-check_lengths.ensures traj holes a.asked.col_start a.asked.col_end a.asked.row_start a.asked.row_end p u refl refl refl (also a.lengths s a.traj_y.now a.traj_x.now k), d.1) in
     search rules
 
 pub returns : goal.returns
 unfolding answer
-returns c = λ s k.
+returns c = λ traj holes s k.
     let a = c.args in let p = a.planes.now in let u = with_traj s a.traj_y.now a.traj_x.now s.map_y s.map_x in
-    let t = c.in_ok-t.ensures p in
-    (rw (t.0, t.1, c.in_ok-check_lengths.ensures p u refl refl refl (also a.lengths s a.traj_y.now a.traj_x.now k), c.in_ok-check_contents.ensures a.asked s (sym t.2)), t.2)
+    let q = switched traj holes a.asked in let t = c.in_ok-t.ensures traj holes p in
+    (rw (t.0, t.1, c.in_ok-check_lengths.ensures traj holes a.asked.col_start a.asked.col_end a.asked.row_start a.asked.row_end p u refl refl refl (also a.lengths s a.traj_y.now a.traj_x.now k), c.in_ok-check_contents.ensures q s (sym t.2)), t.2)

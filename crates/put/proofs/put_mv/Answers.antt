@@ -9,7 +9,7 @@ use Rattle.tile.proofs.Places.{at_low}
 use Rattle.tile.proofs.Owner.{mine_low}
 use Rattle.field.specs.Lent.{IsWithin, vector_in}
 use Rattle.project.specs.Project.{takes, put_trajs}
-use Rattle.put.proofs.Steps.{mv_off, mv_on}
+use Rattle.put.proofs.Steps.{mv_off, mv_on, same_put}
 use Rattle.put.proofs.put_mv.Goals.{After-field_at-at, After-takes, then-traj, else-traj}
 use Rattle.put.proofs.put_mv.Goals as goal
 
@@ -36,8 +36,9 @@ bounds-field-at c = (within (goal.at.bounds-field-at c).After-field_at-at).refer
 pub returns-then-not-takes-clause-stored : goal.returns-then-not-takes-clause-stored
 returns-then-not-takes-clause-stored c =
     let a = c.args in let e = a.e.now.entry in
-    λ we. mv_off (geometry a.t.now) a.t.now.sound a.traj a.v a.from.y a.from.x a.to.y a.to.x c.requires.landing.own e.source.now e.reference a.field.now a.trajectories.now a.maps.now
-    c.field_at-at.result c.field_at-at.ensures (took (goal.at.returns-then-not-takes-clause-stored c).After-takes ∙ c.if-not-takes.true)
+    λ u b h we. rw (same_put (geometry a.t.now) a.traj a.v a.from.y a.from.x a.to.y a.to.x u b e.source.now e.reference h)
+    (mv_off (geometry a.t.now) a.t.now.sound a.traj a.v a.from.y a.from.x a.to.y a.to.x c.requires.landing.own e.source.now e.reference a.field.now a.trajectories.now a.maps.now
+    c.field_at-at.result c.field_at-at.ensures (took (goal.at.returns-then-not-takes-clause-stored c).After-takes ∙ c.if-not-takes.true))
 
 pub put-requires : goal.put-requires
 put-requires c = within (goal.at.put-requires c).After-field_at-at
@@ -45,12 +46,13 @@ put-requires c = within (goal.at.put-requires c).After-field_at-at
 pub returns-clause-stored : goal.returns-clause-stored
 returns-clause-stored c =
     let a = c.args in let e = a.e.now.entry in let t = geometry a.t.now in
-    λ we.
+    λ u b h we.
     let p : (u : Store) → stored_trajs u c.if-traj.trajectories c.if-traj.maps ≡ run (owns t) (when a.traj (put_trajs t e.source.now e.reference a.v a.from.y a.from.x a.to.y a.to.x)) (stored_trajs u a.trajectories.now a.maps.now)
     = λ u. elim c.if-traj.branch [
-      | then-traj w ↦ rw (w.trajectories-is, w.maps-is, w.if-traj.true) (w.put_trajs.ensures.stored we u)
+      | then-traj w ↦ rw (w.trajectories-is, w.maps-is, w.if-traj.true) (w.put_trajs.ensures.stored (we ∙ h.vector) u)
       | else-traj w ↦ rw (w.trajectories-is, w.maps-is, w.if-traj.false) refl
     ] in
-    mv_on t a.t.now.sound a.traj a.v a.from.y a.from.x a.to.y a.to.x c.requires.landing.own e.source.now e.reference a.field.now a.trajectories.now a.maps.now
+    rw (same_put t a.traj a.v a.from.y a.from.x a.to.y a.to.x u b e.source.now e.reference h)
+    (mv_on t a.t.now.sound a.traj a.v a.from.y a.from.x a.to.y a.to.x c.requires.landing.own e.source.now e.reference a.field.now a.trajectories.now a.maps.now
     c.field_at-at.result c.field_at-at.ensures (took (goal.at.returns-clause-stored c).After-takes ∙ c.if-not-takes.false) c.put.new.self c.if-traj.trajectories c.if-traj.maps p
-    c.turned.result c.distance.result c.turned.ensures c.distance.ensures c.put.ensures.stored
+    c.turned.result c.distance.result c.turned.ensures c.distance.ensures c.put.ensures.stored)
