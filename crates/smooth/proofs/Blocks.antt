@@ -1,5 +1,5 @@
 -- Smoothing block by block: the sampled cells of a block by row and column, and the loops as code runs them. Assumes nothing.
-use Rattle.std.proofs.Common.{◌≡◌, refl, sym, ap, ◌∙◌, List, ℕ, ◌+◌, ◌-◌, ◌*◌, ◌/◌, ◌%◌, ◌≤◌, ◌<◌, min, arith, ℤ, pos, length, length-set, set, get_or-set_same, get_or-set_other}
+use Rattle.std.proofs.Common.{◌≡◌, ◌≢◌, refl, sym, ap, ◌∙◌, List, [], ℕ, ◌+◌, ◌-◌, ◌*◌, ◌/◌, ◌%◌, ◌≤◌, ◌<◌, min, arith, ℤ, pos, length, length-set, get_or, set, get_or-set_same, get_or-set_other}
 use Rattle.std.proofs.Math.Nat.{add-mod_right}
 use Rattle.levels.specs.declared.Mv.{Mv}
 use Rattle.loops.proofs.Counting.{is_or}
@@ -23,31 +23,35 @@ use Rattle.field.proofs.Borrows.{same_field, same_after}
 use Rattle.smooth.specs.Code.{InBlock, mean_in}
 use Rattle.field.proofs.Owned.{around_same}
 
--- a list of 64 means holds the values of the rows before a, and of row a before column b
-pub record Lined (f : ℕ → ℕ → Mv) (cols a b : ℕ) (means : List Mv) : Type 0 where
-  pub long : length means ≡ 64
-  pub rows : (i j : ℕ) → i < a → j < cols → mean_in means (i * 8 + j) ≡ f i j
-  pub row : (j : ℕ) → j < b → mean_in means (a * 8 + j) ≡ f a j
+-- eight rows of eight means hold the values of the rows before a, and of row a before column b
+pub record Lined (f : ℕ → ℕ → Mv) (cols a b : ℕ) (means : List (List Mv)) : Type 0 where
+  pub long : length means ≡ 8
+  pub wide : (i : ℕ) → i < 8 → length (get_or means i []) ≡ 8
+  pub rows : (i j : ℕ) → i < a → j < cols → mean_in means i j ≡ f i j
+  pub row : (j : ℕ) → j < b → mean_in means a j ≡ f a j
 
 module _ (f : ℕ → ℕ → Mv) (cols : ℕ) (few : cols ≤ 8) where
-  pub line_start : (means : List Mv) → length means ≡ 64 → Lined f cols 0 0 means
-  line_start means p = record { long = p; rows = λ i j l m. absurd (omega arith); row = λ j l. absurd (omega arith) }
-
-  pub line_next : (a b : ℕ) (means : List Mv) (v : Mv) → a < 8 → b < cols → v ≡ f a b → Lined f cols a b means → Lined f cols a (b + 1) (set means (a * 8 + b) v)
+  pub line_next : (a b : ℕ) (means : List (List Mv)) (v : Mv) → a < 8 → b < cols → v ≡ f a b → Lined f cols a b means → Lined f cols a (b + 1) (set means a (set (get_or means a []) b v))
   line_next a b means v p q e h =
+      let new = set means a (set (get_or means a []) b v) in
+      let same : get_or new a [] ≡ set (get_or means a []) b v = get_or-set_same means a (set (get_or means a []) b v) [] (omega (arith, h.long)) in
+      let other : (i : ℕ) → i ≢ a → get_or new i [] ≡ get_or means i [] = λ i z. get_or-set_other means a i (set (get_or means a []) b v) [] z in
       record {
-        long = length-set means (a * 8 + b) v ∙ h.long;
-        rows = λ i j l m. get_or-set_other means (a * 8 + b) (i * 8 + j) v (vec (pos 0) (pos 0)) (λ z. omega arith) ∙ h.rows i j l m;
+        long = length-set means a (set (get_or means a []) b v) ∙ h.long;
+        wide = λ i l. is_or i a (λ z. rw (z, same) (length-set (get_or means a []) b v ∙ h.wide a p)) (λ z. rw (other i z) (h.wide i l));
+        rows = λ i j l m. rw (other i (λ z. omega arith)) (h.rows i j l m);
         row = λ j l.
-            is_or j b
-            (λ z. rw z (get_or-set_same means (a * 8 + b) v (vec (pos 0) (pos 0)) (omega (arith, h.long)) ∙ e))
-            (λ z. get_or-set_other means (a * 8 + b) (a * 8 + j) v (vec (pos 0) (pos 0)) (λ w. z (omega arith)) ∙ h.row j (omega arith));
+            rw same
+            (is_or j b
+            (λ z. rw z (get_or-set_same (get_or means a []) b v (vec (pos 0) (pos 0)) (omega (arith, h.wide a p)) ∙ e))
+            (λ z. get_or-set_other (get_or means a []) b j v (vec (pos 0) (pos 0)) z ∙ h.row j (omega arith)));
       }
 
-  pub line_row : (a b : ℕ) (means : List Mv) → cols ≤ b → Lined f cols a b means → Lined f cols (a + 1) 0 means
+  pub line_row : (a b : ℕ) (means : List (List Mv)) → cols ≤ b → Lined f cols a b means → Lined f cols (a + 1) 0 means
   line_row a b means p h =
       record {
         long = h.long;
+        wide = h.wide;
         rows = λ i j l m. is_or i a (λ z. rw z (h.row j (omega arith))) (λ z. h.rows i j (omega arith) m);
         row = λ j l. absurd (omega arith);
       }
@@ -105,9 +109,9 @@ pub set_at : (n l : Field) (i j : ℕ) (v : Mv) (r q : ℕ) → i ≡ j → r �
 set_at n l i j v r q a b p s = p s ∙ rw (a, b)
 
 -- the loops that put the means: the list holds the means of the cells as they were
-module _ (t : Geometry) (delta : ℤ) (sx xend sy rows cols : ℕ) (means : List Mv) where
+module _ (t : Geometry) (delta : ℤ) (sx xend sy rows cols : ℕ) (means : List (List Mv)) where
   abbrev pub Means : (Kind → ℕ → Mv) → Type 0
-  Means was = (a b : ℕ) → a < rows → b < cols → mean_in means (a * 8 + b) ≡ smoothed_of (around t (was field_mvs) sx xend (sy + a * t.step) (sx + b * t.step))
+  Means was = (a b : ℕ) → a < rows → b < cols → mean_in means a b ≡ smoothed_of (around t (was field_mvs) sx xend (sy + a * t.step) (sx + b * t.step))
 
   pub record AtCol (a b : ℕ) (l m : Field) : Type 0 where
     pub like : IsSameField l m
@@ -133,12 +137,12 @@ module _ (t : Geometry) (delta : ℤ) (sx xend sy rows cols : ℕ) (means : List
         w s ∙ rw e (rw (o.0, o.1))
 
     pub col_again : (a b : ℕ) (l m n : Field) → a < rows → b < cols → AtCol a b l m → IsSameField n l
-        → Set n l (field_at t (sy + a * t.step) (sx + b * t.step)) (mean_in means (a * 8 + b)) (as_byte delta) → AtCol a (b + 1) n m
+        → Set n l (field_at t (sy + a * t.step) (sx + b * t.step)) (mean_in means a b) (as_byte delta) → AtCol a (b + 1) n m
     col_again a b l m n p q c e w =
         record {
           like = same_after e c.like;
           left = λ was g s.
-              turned (mean_put t delta sx xend sy cols was a) cols b (stored s l) (stored s n) _ q (mean_on was a b p q l n (mean_in means (a * 8 + b)) (g a b p q) w s) (c.left was g s);
+              turned (mean_put t delta sx xend sy cols was a) cols b (stored s l) (stored s n) _ q (mean_on was a b p q l n (mean_in means a b) (g a b p q) w s) (c.left was g s);
         }
 
     pub row_again : (a b : ℕ) (l m n : Field) → a < rows → cols ≤ b → AtRow a l m → AtCol a b n l → AtRow (a + 1) n m
@@ -155,7 +159,7 @@ module _ (t : Geometry) (delta : ℤ) (sx xend sy rows cols : ℕ) (means : List
         ended (row_put t delta sx xend sy cols was) rows a (stored s l) _ p (r.left was g s) ∙ sym (block_by t delta was sx xend sy rows cols h.row_count h.col_count (stored s m))
 
     -- the means are those of the cells as the owner reads them
-    pub block_on : (l n : Field) → ((a b : ℕ) → a < rows → b < cols → mean_in means (a * 8 + b) ≡ smoothed_of (around t (vector_in l) sx xend (sy + a * t.step) (sx + b * t.step)))
+    pub block_on : (l n : Field) → ((a b : ℕ) → a < rows → b < cols → mean_in means a b ≡ smoothed_of (around t (vector_in l) sx xend (sy + a * t.step) (sx + b * t.step)))
         → ((was : Kind → ℕ → Mv) → Means was → (s : Store) → stored s n ≡ run (owns t) (smooth_block t delta sx xend sy was) (stored s l))
         → (s : Store) → stored s n ≡ run (owns t) (snapshot (smooth_block t delta sx xend sy)) (stored s l)
     block_on l n m p s =

@@ -1,5 +1,5 @@
 -- What the contracts of smoothing's code speak of besides the definitions. Assumes nothing.
-use Rattle.std.specs.Prelude.{◌≡◌, List, ℕ, ◌+◌, ◌-◌, ◌/◌, ◌%◌, ◌≤◌, ◌<◌, min, pos, get_or}
+use Rattle.std.specs.Prelude.{◌≡◌, List, [], ℕ, ◌+◌, ◌-◌, ◌/◌, ◌%◌, ◌≤◌, ◌<◌, min, pos, get_or}
 use Rattle.levels.specs.declared.Mv.{Mv}
 use Rattle.store.specs.Store.{vec}
 use Rattle.tile.specs.Geometry.{Geometry}
@@ -16,6 +16,6 @@ pub record InBlock (t : Geometry) (sx xend sy rows cols : ℕ) : Type 0 where
   pub row_count : rows ≡ (min t.bottom (sy + t.block) - sy + (t.step - 1)) / t.step
   pub col_count : cols ≡ (xend - sx + (t.step - 1)) / t.step
 
--- mean i of a block's list of means, (0, 0) past its end
-abbrev pub mean_in : List Mv → ℕ → Mv
-mean_in means i = get_or means i (vec (pos 0) (pos 0))
+-- the mean in row a, column b of a block's rows of means, (0, 0) past an end
+abbrev pub mean_in : List (List Mv) → ℕ → ℕ → Mv
+mean_in means a b = get_or (get_or means a []) b (vec (pos 0) (pos 0))

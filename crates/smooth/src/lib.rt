@@ -62,14 +62,14 @@ struct Block {
     cols: usize,
 }
 
-// The means of a block's sampled cells, cell (a, b) at 8 a + b: one list, as both are counted by the same two numbers.
-fn block_means(field: &Field<'_>, t: &Tile, block: Block) -> [Mv; 64]
+// The means of a block's sampled cells, in rows of eight: cell (a, b) is element b of row a.
+fn block_means(field: &Field<'_>, t: &Tile, block: Block) -> [[Mv; 8]; 8]
     requires inside { InBlock (geometry t.now) block.start block.end block.top block.rows block.cols }
     requires held { AreVectorsHeld (geometry t.now) field.now }
-    ensures { (a b : ℕ) → a < block.rows → b < block.cols → mean_in result (a * 8 + b)
+    ensures { (a b : ℕ) → a < block.rows → b < block.cols → mean_in result a b
         ≡ smoothed_of (around (geometry t.now) (vector_in field.now) block.start block.end (block.top + a * t.now.step) (block.start + b * t.now.step)) }
 {
-    let mut means = [Mv::EMPTY; 64];
+    let mut means = [[Mv::EMPTY; 8]; 8];
     // Sampled rows and columns are counted: of their numbers both the cell and the place of its mean are made.
     for a in 0..block.rows {
         for b in 0..block.cols {
@@ -79,18 +79,18 @@ fn block_means(field: &Field<'_>, t: &Tile, block: Block) -> [Mv; 64]
                 y: block.top + a * t.step,
                 x: block.start + b * t.step,
             };
-            means[a * 8 + b] = around_at(field, t, at).smoothed();
+            means[a][b] = around_at(field, t, at).smoothed();
         }
     }
     means
 }
 
 // The means go to the block's sampled cells, each with the distance.
-fn put_means(field: &mut Field<'_>, means: &[Mv; 64], t: &Tile, delta: i8, block: Block)
+fn put_means(field: &mut Field<'_>, means: &[[Mv; 8]; 8], t: &Tile, delta: i8, block: Block)
     requires inside { InBlock (geometry t.now) block.start block.end block.top block.rows block.cols }
     requires held { IsHeld (geometry t.now) field.old }
     ensures same_borrow { IsSameField field.new field.old }
-    ensures stored { (was : Kind → ℕ → Mv) → ((a b : ℕ) → a < block.rows → b < block.cols → mean_in means.now (a * 8 + b)
+    ensures stored { (was : Kind → ℕ → Mv) → ((a b : ℕ) → a < block.rows → b < block.cols → mean_in means.now a b
         ≡ smoothed_of (around (geometry t.now) (was field_mvs) block.start block.end (block.top + a * t.now.step) (block.start + b * t.now.step)))
         → (s : Store) → stored s field.new ≡ run (owns (geometry t.now)) (smooth_block (geometry t.now) delta block.start block.end block.top was) (stored s field.old) }
 {
@@ -98,7 +98,7 @@ fn put_means(field: &mut Field<'_>, means: &[Mv; 64], t: &Tile, delta: i8, block
     for a in 0..block.rows {
         for b in 0..block.cols {
             let at = t.field_at(block.top + a * t.step, block.start + b * t.step);
-            field.put(at, means[a * 8 + b], field::as_byte(delta));
+            field.put(at, means[a][b], field::as_byte(delta));
         }
     }
 }

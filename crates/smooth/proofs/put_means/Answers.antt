@@ -23,7 +23,7 @@ pub loop-b-preserved : goal.loop-b-preserved
 loop-b-preserved c =
     let a = c.args in let b = a.block in let l = c.loop-b in let i = c.loop-a.a in let t = geometry a.t.now in
     col_again t _ b.start b.end b.top b.rows b.cols a.means.now a.t.now.sound c.requires.inside i l.b _ _ c.put.new.self (omega (arith, c.loop-a-test)) (omega (arith, c.loop-b-test)) l.invariant
-    c.put.ensures.same_borrow (set_at c.put.new.self l.field c.field_at-at.result _ (mean_in a.means.now (i * 8 + l.b)) c.as_byte.result _ c.field_at-at.ensures c.as_byte.ensures c.put.ensures.stored)
+    c.put.ensures.same_borrow (set_at c.put.new.self l.field c.field_at-at.result _ (mean_in a.means.now i l.b) c.as_byte.result _ c.field_at-at.ensures c.as_byte.ensures c.put.ensures.stored)
 
 pub loop-a-preserved : goal.loop-a-preserved
 loop-a-preserved c =
