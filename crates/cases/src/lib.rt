@@ -65,15 +65,12 @@ pub fn all_within(n: &[i64], from: usize, to: usize, low: i64, high: i64) -> boo
     let Some(numbers) = n.get(from..to) else {
         return true;
     };
-    for &v in numbers {
-        if !within(v, low, high) {
-            return false;
-        }
-    }
-    true
+    numbers.iter().all(|&v| within(v, low, high))
 }
 
 /// A number of a line as a field's type; the type's default where it does not fit.
+// No `Option`, which no caller would look at: numbers of a header or a pass are tested before they are read, and the record that
+// is made of a setup's is compared with them afterwards (`frame_cases::is_record`).
 pub fn number<T: Copy + Default + TryFrom<i64, Error = TryFromIntError>>(v: i64) -> T
     ensures { IsNumber T.try_from_gives v result }
 {
@@ -92,7 +89,8 @@ pub fn seven<T: Copy + Default + TryFrom<i64, Error = TryFromIntError>>(
 }
 
 /// A size of a line; 0 where the number is none.
-// A function of its own: its contract says which size the number is, and `number` says it by the type's range.
+// A function of its own: its contract says which size the number is, and `number` says it by the type's range. No `Option`: the
+// numbers of a pass, a tile and a run are tested before they are read, and of a count below 0 a load's book says nothing.
 pub fn to_usize(v: i64) -> usize
     ensures { IsSize v → result ≡ nat_abs v }
 {
@@ -146,10 +144,7 @@ pub fn same<T: Copy + Into<i64>>(list: &[T], n: &[i64], from: usize) -> bool
     if numbers.len() < list.len() {
         return false;
     }
-    for (&v, &number) in list.iter().zip(numbers) {
-        if v.into() != number {
-            return false;
-        }
-    }
-    true
+    list.iter()
+        .zip(numbers)
+        .all(|(&v, &number)| v.into() == number)
 }
