@@ -34,7 +34,8 @@ fn saved_at(b: &[u8], at: usize) -> Saved
     Saved { ref_poc, refcnt }
 }
 
-// The head's length is a clause, here and below, and the bytes no `&[u8; 103]`: a narrower type would ask more of callers, who have the whole file.
+// The head's length is a clause, here and below, and the bytes no `&[u8; 103]`: `header_of` and `present_of` are public and
+// take the whole file, from which such an array would be had only by a test whose failure cannot come.
 fn all_saved(b: &[u8]) -> [Saved; 7]
     requires { 103 ≤ length b.now }
     ensures { result ≡ all_saved b.now }
@@ -146,11 +147,7 @@ fn present_before(present: [bool; 7], k: usize) -> usize
     ensures value { result ≡ present_before present k }
     ensures most { result ≤ k }
 {
-    let mut n = 0;
-    for &here in &present[..k] {
-        n += usize::from(here);
-    }
-    n
+    present[..k].iter().filter(|here| **here).count()
 }
 
 /// Where slot k's plane begins in a file with n tile columns; for k = 7, where the file ends.
@@ -171,7 +168,7 @@ pub fn put_row(line: &[u8], planes: &mut [i8], at: usize)
     requires { at + length line.now ≤ length planes.old }
     ensures { planes.new ≡ put_row line.now at planes.old }
 {
-    // The index serves both lists: the row's place is in the midst of the planes, and a `zip` with a part of them is no plainer.
+    // The index serves both lists: a `zip` with `planes[at..at + line.len()]` would say once more how long the row is.
     for (i, &byte) in line.iter().enumerate() {
         planes[at + i] = text::signed_byte(byte);
     }
