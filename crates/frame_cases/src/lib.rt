@@ -33,7 +33,7 @@ fn hints_at(n: &[i64], k: usize) -> [OrderHint; 7]
     ensures { Bytes k (k + 7) n.now → result ≡ hints_at n.now k }
 {
     let hints: [u8; 7] = cases::seven(n, k);
-    array::from_fn(|i| OrderHint(hints[i]))
+    hints.map(|hint| OrderHint(hint))
 }
 
 // A slot's saved hints, and then their count.
@@ -132,7 +132,7 @@ fn put_seven<T: Copy + Into<i64>>(a: &[T; 7], out: &mut [i64; 171], k: usize)
     requires { k + 7 ≤ 171 }
     ensures { (f : ℕ → ℤ) → ((i : ℕ) (x : T) (z : ℤ) → slice_get a.now i ≡ Some x → T.converts x z → z ≡ f i) → out.new ≡ put_seven f k out.old }
 {
-    // The index serves both lists: the numbers go to the midst of the record, and a `zip` with a part of it is no plainer.
+    // The index serves both lists: a `zip` with `out[k..k + 7]` would say once more how many there are.
     for (i, &v) in a.iter().enumerate() {
         out[k + i] = v.into();
     }
@@ -167,7 +167,7 @@ fn put_head(f: Frame, out: &mut [i64; 171])
 {
     out[0] = i64::from(f.width);
     out[1] = i64::from(f.height);
-    // `as`: there is no `From` from usize to u64.
+    // `as`: there is no `From` from usize to u64, and a `try_from` would have to name a number for a failure that cannot come.
     out[2] = of_u64(f.n_refs as u64);
     out[3] = i64::from(f.sb128);
     out[4] = i64::from(f.tmvp_sample_step);
@@ -191,7 +191,7 @@ fn put_frame(f: Frame, out: &mut [i64; 171])
     put_seven(&f.abspocdiff, out, 33);
     out[40] = i64::from(sources.mfmv_mask);
     out[41] = i64::from(f.use_ref_frame_mvs);
-    // `as`: there is no `From` from usize to u64.
+    // `as`: as in `put_head`.
     out[42] = of_u64(sources.n_mfmvs as u64);
     put_sources(sources, out);
 }
