@@ -62,19 +62,13 @@ fn wanted_of(count: usize, arg: &[u8]) -> Result<Wanted, Problem>
     Wanted::try_from(arg)
 }
 
-// Puts the first argument at the front of arg, and answers its length: 0 for one that is missing, or longer than arg.
-fn first_arg(rt: &impl Env, arg: &mut [u8]) -> usize
-    ensures { result ≤ length arg.new }
-{
-    rt.arg(1, arg).unwrap_or(0)
-}
-
 fn has_arg(rt: &impl Env, i: usize) -> bool {
     let mut start = [0u8; 1];
     !matches!(rt.arg(i, &mut start), Err(FillError::NotPresent))
 }
 
-// How many arguments there are, with the program's own name: 3 stands for more, too.
+// How many arguments there are, with the program's own name. `Env` has no count, and more than two are all refused: 3 stands
+// for each such count.
 fn arg_count(rt: &impl Env) -> usize {
     if !has_arg(rt, 1) {
         return 1;
@@ -85,11 +79,14 @@ fn arg_count(rt: &impl Env) -> usize {
     3
 }
 
-// For an argument that is missing, or longer than 16 bytes, first_arg answers length 0: neither word.
 fn asked(rt: &impl Env) -> Result<Wanted, Problem> {
     let mut arg = [0u8; 16];
-    let n = first_arg(rt, &mut arg);
-    wanted_of(arg_count(rt), &arg[..n])
+    // One that is missing, or longer than 16 bytes, is read as the empty word, which is neither form.
+    let word = match rt.arg(1, &mut arg) {
+        Ok(n) => &arg[..n],
+        Err(_) => &[],
+    };
+    wanted_of(arg_count(rt), word)
 }
 
 // Are there no tile columns, or does the last not end at the frame's width?

@@ -1,8 +1,8 @@
 //! Why a file cannot be shown, and the line that says so.
-ghost use Rattle.std.specs.Prelude.{OnOk, ◌≡◌, ◌+◌, ◌≤◌, ◌++◌, length};
+ghost use Rattle.std.specs.Prelude.{IfSome, MatchOption, OnOk, ◌≡◌, ◌+◌, ◌≤◌, ◌++◌, [], length};
 ghost use Rattle.std.specs.Io.KnownBytes.{Appends};
 ghost use Rattle.arrayvec.specs.ArrayVec.{array_vec_len};
-ghost use Rattle.show_field.specs.Lines.{line, setup_line, load_line, line_of};
+ghost use Rattle.show_field.specs.Lines.{line, line_of};
 
 use arrayvec::ArrayVec;
 use levels::Refusal;
@@ -32,8 +32,56 @@ pub enum Problem {
     NotWritten,
 }
 
-// The line of a message. Each put function appends its line, of at most 80 bytes, or nothing where there is none. The
-// room for it is a clause of each: the buffer is lent, and of a fixed length (no heap).
+impl Problem {
+    // The text of its line; none for a refusal that no setup or no load gives.
+    fn message(self) -> Option<&'static [u8]>
+        ensures text { MatchOption result (line_of self ≡ []) (λ m. line_of self ≡ line m.now) }
+        ensures short { IfSome result (λ m. length m.now ≤ 67) }
+    {
+        match self {
+            Problem::Usage => Some(b"usage: show_field [text | picture] < FILE"),
+            Problem::TooShort => Some(b"the file is too short"),
+            Problem::NotAFrameFile => Some(b"not a frame file of version 1"),
+            Problem::Setup(Refusal::TooManyBits) => Some(
+                b"the setup is refused, 3: hint bits above 8",
+            ),
+            Problem::Setup(Refusal::TooManySlots) => Some(
+                b"the setup is refused, 4: slots above 7",
+            ),
+            Problem::Setup(Refusal::BadSuperblock) => Some(
+                b"the setup is refused, 5: superblock code above 2",
+            ),
+            Problem::Setup(Refusal::BadStep) => Some(b"the setup is refused, 6: step not 1 or 2"),
+            Problem::Setup(Refusal::BadSize) => Some(
+                b"the setup is refused, 7: width or height not 1..65536",
+            ),
+            Problem::Setup(Refusal::BadTipSlot) => Some(
+                b"the setup is refused, 8: TIP slot not a slot in use",
+            ),
+            Problem::Setup(_) => None,
+            Problem::TooLarge => Some(b"the frame is larger than 2048 x 2048 pixels"),
+            Problem::TileColumns => Some(b"the tile columns do not end at the frame's width"),
+            Problem::TooLong => Some(b"the file is too long"),
+            Problem::Load(Refusal::SetupOutOfRange) => Some(
+                b"the load is refused, 9: setup out of range",
+            ),
+            Problem::Load(Refusal::TileOutOfRange) => Some(
+                b"the load is refused, 10: a tile's columns or rows",
+            ),
+            Problem::Load(Refusal::TooShort) => Some(
+                b"the load is refused, 11: planes or store too short",
+            ),
+            Problem::Load(Refusal::ContentsOutOfRange) => Some(
+                b"the load is refused, 12: a saved block out of range",
+            ),
+            Problem::Load(_) => None,
+            Problem::NotWritten => Some(b"the output cannot be written"),
+        }
+    }
+}
+
+// The line of a message. That the buffer has room for it is a clause, here and in `put_line`: it is lent, and of a fixed
+// length (no heap).
 #[tactic(auto, unfolding(crate::specs::Lines::line))]
 fn put_message<const N: usize>(message: &[u8], out: &mut ArrayVec<u8, N>)
     requires short { length message.now ≤ 67 }
@@ -46,74 +94,14 @@ fn put_message<const N: usize>(message: &[u8], out: &mut ArrayVec<u8, N>)
     out.push(b'\n');
 }
 
-fn put_setup<const N: usize>(refusal: Refusal, out: &mut ArrayVec<u8, N>)
-    requires room { array_vec_len out.old + 80 ≤ N }
-    ensures text { out.new.items ≡ out.old.items ++ setup_line refusal }
-    ensures len { array_vec_len out.new ≤ array_vec_len out.old + 80 }
-{
-    match refusal {
-        Refusal::TooManyBits => put_message(b"the setup is refused, 3: hint bits above 8", out),
-        Refusal::TooManySlots => put_message(b"the setup is refused, 4: slots above 7", out),
-        Refusal::BadSuperblock => put_message(
-            b"the setup is refused, 5: superblock code above 2",
-            out,
-        ),
-        Refusal::BadStep => put_message(b"the setup is refused, 6: step not 1 or 2", out),
-        Refusal::BadSize => put_message(
-            b"the setup is refused, 7: width or height not 1..65536",
-            out,
-        ),
-        Refusal::BadTipSlot => put_message(
-            b"the setup is refused, 8: TIP slot not a slot in use",
-            out,
-        ),
-        // No setup is refused so.
-        _ => (),
-    }
-}
-
-fn put_load<const N: usize>(refusal: Refusal, out: &mut ArrayVec<u8, N>)
-    requires room { array_vec_len out.old + 80 ≤ N }
-    ensures text { out.new.items ≡ out.old.items ++ load_line refusal }
-    ensures len { array_vec_len out.new ≤ array_vec_len out.old + 80 }
-{
-    match refusal {
-        Refusal::SetupOutOfRange => put_message(b"the load is refused, 9: setup out of range", out),
-        Refusal::TileOutOfRange => put_message(
-            b"the load is refused, 10: a tile's columns or rows",
-            out,
-        ),
-        Refusal::TooShort => put_message(
-            b"the load is refused, 11: planes or store too short",
-            out,
-        ),
-        Refusal::ContentsOutOfRange => put_message(
-            b"the load is refused, 12: a saved block out of range",
-            out,
-        ),
-        // No load is refused so.
-        _ => (),
-    }
-}
-
+// Appends the problem's line, of at most 80 bytes, or nothing where it has none.
 fn put_line<const N: usize>(p: Problem, out: &mut ArrayVec<u8, N>)
     requires room { array_vec_len out.old + 80 ≤ N }
     ensures text { out.new.items ≡ out.old.items ++ line_of p }
     ensures len { array_vec_len out.new ≤ array_vec_len out.old + 80 }
 {
-    match p {
-        Problem::Usage => put_message(b"usage: show_field [text | picture] < FILE", out),
-        Problem::TooShort => put_message(b"the file is too short", out),
-        Problem::NotAFrameFile => put_message(b"not a frame file of version 1", out),
-        Problem::Setup(refusal) => put_setup(refusal, out),
-        Problem::TooLarge => put_message(b"the frame is larger than 2048 x 2048 pixels", out),
-        Problem::TileColumns => put_message(
-            b"the tile columns do not end at the frame's width",
-            out,
-        ),
-        Problem::TooLong => put_message(b"the file is too long", out),
-        Problem::Load(refusal) => put_load(refusal, out),
-        Problem::NotWritten => put_message(b"the output cannot be written", out),
+    if let Some(message) = p.message() {
+        put_message(message, out);
     }
 }
 

@@ -57,7 +57,7 @@ impl<'f, 'c> View<'f, 'c> {
         show::put_row_pixels(&self.cells, base, py, self.setup.width, out);
     }
 
-    // Part k of a picture.
+    // Part k of a picture. The head is part 0, and not written apart: one loop then writes both forms, and ends at the first write that fails.
     fn put_picture_part<const N: usize>(&self, k: u32, out: &mut ArrayVec<u8, N>)
         requires part { k ≤ self.now.setup.now.height }
         requires room { array_vec_len out.old + 14592 ≤ N }
