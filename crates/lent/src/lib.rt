@@ -13,7 +13,8 @@ ghost use Rattle.lent.specs.Lent.{Gives, GivesBytes, GivesDiff};
 
 use levels::{Mv, OrderHint, QMv, Refusal};
 
-// Writes an answer's vector into out, and answers its number.
+// Writes an answer's vector into out, and answers its number. Not one function with the `match` of `get_poc_diff`: that writes a
+// number, and each is used for its own type of value alone.
 fn put_mv(answer: Result<Mv, Refusal>, out: &mut [i32; 2]) -> u32
     ensures { Gives (says answer) result out.old out.new }
 {

@@ -125,6 +125,7 @@ pub fn refmvs_load_tmvs(
         x: traj_x,
     };
     let mut maps = Pairs { y: map_y, x: map_x };
+    // A `match`, as where `lent` answers a number: it names both answers once, where `.err().map_or(0, u32::from)` would turn the answer twice.
     match tmvs::load_tmvs(
         &mut field,
         &mut trajectories,
