@@ -2,7 +2,7 @@
 // against the answer that its line states and the lists that are wanted.
 #![tactic(auto)]
 
-ghost use Rattle.std.specs.Prelude.{◌≡◌, ◌+◌, ◌≤◌, length};
+ghost use Rattle.std.specs.Prelude.{◌≡◌, true, ◌+◌, ◌≤◌, length, Some};
 ghost use Rattle.store.specs.Calls.{called};
 ghost use Rattle.store.specs.Store.{pack};
 ghost use Rattle.field.specs.Lent.{store_of};
@@ -130,8 +130,35 @@ pub fn same_parts(
     )
 }
 
-/// Judges a load that is lent the parts of a store. The setup has 171 numbers and the call 8, the
-/// last of which is the answer's.
+// Whether the load of the lines agrees, if they are one. The setup has 171 numbers and the call 8, the
+// last of which is the answer's.
+fn agrees(
+    field: &mut Field<'_>,
+    trajectories: &mut Pairs<'_, i32>,
+    maps: &mut Pairs<'_, i8>,
+    planes: &[i8],
+    want: &[i64],
+    setup: &[i64],
+    n: &[i64],
+) -> Option<bool>
+    ensures { result ≡ Some true → CallAgrees setup.now n.now planes.now (store_of field.old trajectories.old maps.old) want.now }
+{
+    if setup.len() != 171 || n.len() != 8 || !cases::all_within(n, 3, 7, 0, i64::MAX) {
+        return None;
+    }
+    let frame = setup::setup_of(setup);
+    if !frame_cases::is_record(frame, setup, 0) {
+        return None;
+    }
+    let stated = n[7];
+    let number = run_call(field, trajectories, maps, planes, &frame, asked_at(n, 0));
+    if i64::from(number) != stated {
+        return Some(false);
+    }
+    Some(same_parts(field, trajectories, maps, want))
+}
+
+/// Judges a load that is lent the parts of a store.
 pub fn judge_call(
     field: &mut Field<'_>,
     trajectories: &mut Pairs<'_, i32>,
@@ -143,17 +170,5 @@ pub fn judge_call(
 ) -> Verdict
     ensures { WhenAgrees result (CallAgrees setup.now n.now planes.now (store_of field.old trajectories.old maps.old) want.now) }
 {
-    if setup.len() != 171 || n.len() != 8 || !cases::all_within(n, 3, 7, 0, i64::MAX) {
-        return Verdict::NotACase;
-    }
-    let frame = setup::setup_of(setup);
-    if !frame_cases::is_record(frame, setup, 0) {
-        return Verdict::NotACase;
-    }
-    let stated = n[7];
-    let number = run_call(field, trajectories, maps, planes, &frame, asked_at(n, 0));
-    if i64::from(number) != stated {
-        return Verdict::Differs;
-    }
-    Some(same_parts(field, trajectories, maps, want)).into()
+    agrees(field, trajectories, maps, planes, want, setup, n).into()
 }

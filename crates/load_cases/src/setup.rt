@@ -1,4 +1,6 @@
-// The setup of a line's numbers. One that does not fit its field is read as 0: frame_cases::is_record says whether one was.
+// The setup of a line's numbers. One that does not fit its field is read as 0, and no function here
+// answers an `Option`: the judges compare the record that comes of it with the line's numbers
+// (frame_cases::is_record), which finds each such number without a test of its own.
 ghost use Rattle.std.specs.Prelude.{◌≡◌, ◌+◌, ◌*◌, ◌≤◌, ◌<◌, length};
 ghost use Rattle.load_cases.specs.Setup.{source_at, sources_at, tip_at, setup_at, SourceNumbers, SourcesNumbers, TipNumbers, SetupNumbers};
 
