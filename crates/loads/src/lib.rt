@@ -70,6 +70,7 @@ pub fn load_frame(
         ≡ until_refused (frame_calls setup.now traj holes planes.now ends.now) (store_of field.old trajectories.old maps.old) }
 {
     let side = checks::side_of(setup);
+    // By its number: a superblock row is loaded by its first row.
     for row in (0..checks::high_of(setup)).step_by(side) {
         load_row(
             field,
