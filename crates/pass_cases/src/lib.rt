@@ -164,6 +164,7 @@ fn run_on_tile(
         (store_of field.old trajectories.old maps.old)
         (store_of field.new trajectories.new maps.new)) }
 {
+    // Tried by `.ok()?`: the proof that the pass ran on this tile didn't close.
     let Ok(t) = accepted_tile(field, trajectories, maps, setup, asked) else {
         return None;
     };
