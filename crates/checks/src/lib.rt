@@ -387,15 +387,16 @@ fn traj_in_range(v: Mv) -> bool
     (mv::is_empty(v) & (v.x == 0)) | near
 }
 
-// The first n trajectories. The flag is joined without a branch: there are 7 x S x stride of them.
+// The first n trajectories. Their count stands beside the two lists: slices of so many would want a clause that they are of one length. The flag is joined without a branch: there are 7 x S x stride of them.
 fn trajs_in_range(traj_y: &[i32], traj_x: &[i32], n: usize) -> bool
     requires y { n ≤ length traj_y.now }
     requires x { n ≤ length traj_x.now }
     ensures { result ≡ all_below n (λ i. traj_in_range (vec (get_or traj_y.now i (pos 0)) (get_or traj_x.now i (pos 0)))) }
 {
     let mut ok = true;
-    for (&y, &x) in traj_y[..n].iter().zip(&traj_x[..n]) {
-        ok &= traj_in_range(Mv { y, x });
+    // By index. Tried by a zip of both lists' fronts, which is proved: a load of one tile of 8K then takes 1.08 times as long as the Rust's, in place of 0.88 times.
+    for i in 0..n {
+        ok &= traj_in_range(store::vector_at(traj_y, traj_x, i));
     }
     ok
 }

@@ -119,8 +119,7 @@ fn header_of(n: &[i64]) -> Header
     }
 }
 
-// A line has no number above the largest i64. By hand: std has no conversion that stops at the
-// largest number, and `as` would wrap.
+// A line has no number above the largest i64. No `as`, which would wrap.
 fn of_u64(v: u64) -> i64
     ensures { result ≡ in_i64 v }
 {

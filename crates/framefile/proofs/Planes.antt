@@ -13,11 +13,6 @@ pub one_low : (b : Bool) → cond b 1 0 ≤ 1
 one_low true = omega arith
 one_low false = omega arith
 
--- a switch as a number
-pub one_if : (b : Bool) → bool_byte b ≡ cond b 1 0
-one_if true = refl
-one_if false = refl
-
 pub byte_low : (b : Bool) → bool_byte b ≤ 1
 byte_low true = omega arith
 byte_low false = omega arith

@@ -130,6 +130,7 @@ pub fn end_at(b: &[u8], i: usize) -> usize
 }
 
 /// The ends of the first n tile columns.
+// How many stands beside the list, which is no slice of so many: the file's bytes are asked for by it, too.
 pub fn read_ends(b: &[u8], n: usize, ends: &mut [usize])
     requires columns { n ≤ 255 }
     requires in_file { 103 + 4 * n ≤ length b.now }

@@ -31,8 +31,8 @@ fn copy<T: Copy + TryFrom<i64, Error = TryFromIntError>>(
     cases::read(n, from, &mut to[..count])
 }
 
-// A pass has fourteen numbers, and reads no planes. By length: `judge` is lent any list, and an enum made
-// of it here would be taken apart again for the two judges, which are lent lists.
+// A pass has fourteen numbers, and reads no planes. By length: `judge` is public and is lent any list, of which the two judges
+// make out themselves whether it is a call's or a pass's.
 fn judge_lists(
     field: &mut Field<'_>,
     trajectories: &mut Pairs<'_, i32>,

@@ -1,4 +1,4 @@
--- The ranges of what a source says of a reference. Assumes nothing.
+-- What a source says of a reference: its ranges, and when another source says the same. Assumes nothing.
 use Rattle.std.specs.Prelude.{ℕ, ◌<◌, ◌≡◌, pos, nat_abs, get_or}
 use Rattle.intops.specs.Bounds.{Within}
 use Rattle.entry.specs.declared.Source.{Source}

@@ -158,7 +158,10 @@ fn agrees(
     Some(same_parts(field, trajectories, maps, want))
 }
 
-/// Judges a load that is lent the parts of a store.
+/// Judges a load that is lent the parts of a store. The setup has 171 numbers and the call 8, the last
+/// of which is the answer's.
+// What is wanted, the setup and the call go down as three lists, here and in the judges of passes and of kept cases: they are of three kinds of lines, and
+// each has a definition of its own.
 pub fn judge_call(
     field: &mut Field<'_>,
     trajectories: &mut Pairs<'_, i32>,

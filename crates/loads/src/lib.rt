@@ -14,6 +14,7 @@ use load::Asked;
 use store::Pairs;
 
 // The tiles of a superblock row; ends are the tile columns' ends. The first refusal ends it.
+// No struct of setup, planes and switches: a call is made of them for each tile.
 fn load_row(
     field: &mut Field<'_>,
     trajectories: &mut Pairs<'_, i32>,

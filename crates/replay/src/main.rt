@@ -53,6 +53,14 @@ struct Replay {
     tallies: Tallies,
 }
 
+impl Replay {
+    // Before the first line.
+    const NEW: Replay = Replay {
+        ended: None,
+        tallies: [0; 8],
+    };
+}
+
 // How a verdict ends the run, if it does. Not one with `judged` of `replay_loads`, which takes a call off its book, too.
 fn end_of(verdict: Verdict) -> Option<End>
     ensures { result ≡ end_of verdict }
@@ -100,10 +108,7 @@ impl TakesLines<16, 1024> for Replay {
     ghost over = { over };
 
     fn begin(&mut self) {
-        *self = Replay {
-            ended: None,
-            tallies: [0; 8],
-        };
+        *self = Replay::NEW;
     }
 
     fn take(&mut self, line: &Reader) {
@@ -171,10 +176,7 @@ fn write_end<W: Write>(
 // Makes the buffers once, and lends them.
 fn main(rt: HostRuntime) {
     let mut input = io::large_buffer();
-    let mut run = Replay {
-        ended: None,
-        tallies: [0; 8],
-    };
+    let mut run = Replay::NEW;
     let mut out = ArrayVec::new();
     let last = take_all(&mut rt.stdin(), &mut input, &mut run);
     let _ = write_end(&mut rt.stdout(), &run, &last, &mut out);

@@ -30,7 +30,7 @@ pub fn block_at(part: &[i8], at: usize, dir: usize) -> Option<Block>
     ensures reference { IfSome result (λ b. b.reference < 7) }
     ensures vector { IfSome result (λ b. past_range b.mv ≡ false) }
 {
-    // No `.ok()?`: both tests leave in the same way, as the definition has them.
+    // Tried by `.ok()?`: the laws of an index speak of the `Result`, and the proof didn't close.
     let Ok(reference) = usize::try_from(part[at + 4 + dir]) else {
         return None;
     };

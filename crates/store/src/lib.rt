@@ -120,10 +120,8 @@ impl<'a> Pairs<'a, i8> {
         ensures y { result.y ≡ get_or self.now.y.now i (pos 0) }
         ensures x { result.x ≡ get_or self.now.x.now i (pos 0) }
     {
-        QMv {
-            y: self.y[i],
-            x: self.x[i],
-        }
+        let (y, x) = self.at(i);
+        QMv { y, x }
     }
 
     /// Writes a packed vector.

@@ -1,26 +1,19 @@
 -- `checks::trajs_in_range` meets its contract. Assumes nothing.
-use Rattle.std.proofs.Common.{◌≡◌, sym, ◌∙◌, Bool, List, length, ◌⊎◌, inl, inr, ℤ, w32, SFits, rules}
-use Rattle.intops.proofs.Signed.{back}
+use Rattle.std.proofs.Common.{refl, ap, ◌∙◌, arith, pos, get_or}
 use Rattle.store.specs.Store.{vec}
 use Rattle.traj.specs.Traj.{traj_in_range}
-use Rattle.checks.proofs.Tests.{and_true}
-use Rattle.checks.proofs.Lists.{pairs_below, pairs_end, one_pair}
+use Rattle.project.specs.Tested.{all_below}
+use Rattle.project.proofs.Tested.{all_turn, all_end}
 use Rattle.checks.proofs.trajs_in_range.Goals as goal
 
-abbrev test : ℤ → ℤ → Bool
-test y x = traj_in_range (vec y x)
+pub loop-i-init : goal.loop-i-init
+unfolding all_below
+loop-i-init c = (omega arith, refl)
 
--- one of the lists is at its end
-ended : {A B : Type 0} {P : A → Type 0} {Q : B → Type 0} (ys xs : List ℤ) → ((a : A) × ((length ys ≡ 0) × P a)) ⊎ ((b : B) × ((length xs ≡ 0) × Q b)) → (length ys ≡ 0) ⊎ (length xs ≡ 0)
-ended ys xs (inl h) = inl h.1.0
-ended ys xs (inr h) = inr h.1.0
-
-pub loop-y-preserved : goal.loop-y-preserved
-loop-y-preserved c =
-    let s = c.in-Some.ensures.steps in
-    let f : SFits w32 c.in-Some.field-0-0.now = search rules in let g : SFits w32 c.in-Some.field-0-1.now = search rules in
-    rw c.traj_in_range-ok.ensures (simp back (one_pair c.loop-y.ok test _ _ _ _ _ _ _ c.loop-y.invariant s.0 s.1))
+pub loop-i-preserved : goal.loop-i-preserved
+loop-i-preserved c =
+    let l = c.loop-i in let a = c.args in
+    (omega arith, all_turn (λ k. traj_in_range (vec (get_or a.traj_y.now k (pos 0)) (get_or a.traj_x.now k (pos 0)))) l.i l.ok _ l.invariant.1 (c.traj_in_range-ok.ensures ∙ ap traj_in_range c.vector_at.ensures))
 
 pub returns : goal.returns
-returns c =
-    sym (and_true c.loop-y.ok) ∙ (rw (pairs_end test _ _ (ended _ _ c.in-None.ensures.steps)) at c.loop-y.invariant) ∙ pairs_below test _ _ _ c.requires.y c.requires.x
+returns c = let l = c.loop-i in all_end _ _ l.i l.ok l.invariant.0 c.loop-i-test.false l.invariant.1
