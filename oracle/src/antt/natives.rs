@@ -134,10 +134,13 @@ pub const OWN: &[(&str, Native, usize)] = &[
 pub const CLAUSES: &[(&str, &str)] = &[
     (
         "Rattle.std.specs.Prelude",
-        "use Rattle.std.specs.Prelude.{true, false, Some, None, Ok, Err, [], ◌∷◌, ◌++◌, zero, suc, ◌+◌, ◌/◌, ◌%◌, ◌==◌, if◌then◌else◌, nat_lt}
+        "use Rattle.std.specs.Prelude.{true, false, not, Some, None, Ok, Err, [], ◌∷◌, ◌++◌, zero, suc, ◌+◌, ◌/◌, ◌%◌, ◌==◌, if◌then◌else◌, nat_lt}
 abbrev pub is_some : {T : Type 0} → Option T → Bool
 is_some None = false
 is_some (Some x) = true
+
+abbrev pub is_none : {T : Type 0} → Option T → Bool
+is_none o = not (is_some o)
 
 abbrev pub is_err : {T E : Type 0} → Result T E → Bool
 is_err (Ok x) = false
