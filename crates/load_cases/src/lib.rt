@@ -4,8 +4,9 @@
 
 ghost use Rattle.std.specs.Prelude.{◌≡◌, true, ◌+◌, ◌≤◌, length, Some};
 ghost use Rattle.store.specs.Calls.{called};
+ghost use Rattle.store.specs.Lent.{IsSamePairs};
 ghost use Rattle.store.specs.Store.{pack};
-ghost use Rattle.field.specs.Lent.{store_of};
+ghost use Rattle.field.specs.Lent.{IsSameField, store_of};
 ghost use Rattle.load.specs.Asked.{call_of};
 ghost use Rattle.load.specs.Calls.{answer, load};
 ghost use Rattle.cases.specs.Verdicts.{WhenTrue, WhenAgrees};
@@ -74,6 +75,9 @@ fn run_call(
     setup: &Frame,
     asked: Asked,
 ) -> u8
+    ensures same_field { IsSameField field.new field.old }
+    ensures same_trajectories { IsSamePairs trajectories.new trajectories.old }
+    ensures same_maps { IsSamePairs maps.new maps.old }
     ensures answer { result ≡ answer (call_of setup.now asked planes.now) (store_of field.old trajectories.old maps.old) }
     ensures stored { store_of field.new trajectories.new maps.new
         ≡ called answer load (call_of setup.now asked planes.now) (store_of field.old trajectories.old maps.old) }
@@ -132,6 +136,7 @@ pub fn same_parts(
 
 // Whether the load of the lines agrees, if they are one. The setup has 171 numbers and the call 8, the
 // last of which is the answer's.
+#[tactic(auto, using(field::proofs::Borrows::same_field, store::proofs::Borrows::same_pairs))]
 fn agrees(
     field: &mut Field<'_>,
     trajectories: &mut Pairs<'_, i32>,
@@ -141,7 +146,10 @@ fn agrees(
     setup: &[i64],
     n: &[i64],
 ) -> Option<bool>
-    ensures { result ≡ Some true → CallAgrees setup.now n.now planes.now (store_of field.old trajectories.old maps.old) want.now }
+    ensures same_field { IsSameField field.new field.old }
+    ensures same_trajectories { IsSamePairs trajectories.new trajectories.old }
+    ensures same_maps { IsSamePairs maps.new maps.old }
+    ensures agrees { result ≡ Some true → CallAgrees setup.now n.now planes.now (store_of field.old trajectories.old maps.old) want.now }
 {
     if setup.len() != 171 || n.len() != 8 || !cases::all_within(n, 3, 7, 0, i64::MAX) {
         return None;
@@ -171,7 +179,10 @@ pub fn judge_call(
     setup: &[i64],
     n: &[i64],
 ) -> Verdict
-    ensures { WhenAgrees result (CallAgrees setup.now n.now planes.now (store_of field.old trajectories.old maps.old) want.now) }
+    ensures same_field { IsSameField field.new field.old }
+    ensures same_trajectories { IsSamePairs trajectories.new trajectories.old }
+    ensures same_maps { IsSamePairs maps.new maps.old }
+    ensures agrees { WhenAgrees result (CallAgrees setup.now n.now planes.now (store_of field.old trajectories.old maps.old) want.now) }
 {
     agrees(field, trajectories, maps, planes, want, setup, n).into()
 }

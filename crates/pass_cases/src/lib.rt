@@ -3,11 +3,12 @@
 #![tactic(auto)]
 
 ghost use Rattle.std.specs.Prelude.{◌≡◌, true, false, ◌*◌, ◌≤◌, ◌<◌, length, [], Some, IfSome, IfOk, OnOk};
+ghost use Rattle.store.specs.Lent.{IsSamePairs};
 ghost use Rattle.store.specs.Program.{run};
 ghost use Rattle.tile.specs.Lent.{IsTrajHeld, IsMapHeld};
 ghost use Rattle.tile.specs.Owner.{owns};
 ghost use Rattle.tile.specs.Tiles.{geometry};
-ghost use Rattle.field.specs.Lent.{IsHeld, store_of};
+ghost use Rattle.field.specs.Lent.{IsHeld, IsSameField, store_of};
 ghost use Rattle.load.specs.Asked.{call_of};
 ghost use Rattle.load.specs.Load.{tile_of};
 ghost use Rattle.cases.specs.Verdicts.{WhenTrue, WhenAgrees};
@@ -92,6 +93,7 @@ fn applies(t: &Tile, pass: &Pass) -> bool
 }
 
 // What a load begins with.
+#[tactic(auto, using(field::proofs::Borrows::same_after, store::proofs::Borrows::same_pairs_after, store::proofs::Borrows::same_pairs))]
 fn empty(
     field: &mut Field<'_>,
     trajectories: &mut Pairs<'_, i32>,
@@ -103,7 +105,10 @@ fn empty(
     requires field { IsHeld (geometry t.now) field.old }
     requires trajectories { IsTrajHeld (geometry t.now) trajectories.old }
     requires maps { IsMapHeld (geometry t.now) maps.old }
-    ensures { store_of field.new trajectories.new maps.new
+    ensures same_field { IsSameField field.new field.old }
+    ensures same_trajectories { IsSamePairs trajectories.new trajectories.old }
+    ensures same_maps { IsSamePairs maps.new maps.old }
+    ensures stored { store_of field.new trajectories.new maps.new
         ≡ run (owns (geometry t.now)) (emptying (geometry t.now) asked.whole_frame asked.traj) (store_of field.old trajectories.old maps.old) }
 {
     stages::copy_rows(field, t, asked.whole_frame);
@@ -112,6 +117,7 @@ fn empty(
 }
 
 // The pass of the kind that is asked for.
+#[tactic(auto, using(field::proofs::Borrows::same_field, store::proofs::Borrows::same_pairs))]
 fn run_pass(
     field: &mut Field<'_>,
     trajectories: &mut Pairs<'_, i32>,
@@ -126,7 +132,10 @@ fn run_pass(
     requires field { IsHeld (geometry t.now) field.old }
     requires trajectories { IsTrajHeld (geometry t.now) trajectories.old }
     requires maps { IsMapHeld (geometry t.now) maps.old }
-    ensures { store_of field.new trajectories.new maps.new
+    ensures same_field { IsSameField field.new field.old }
+    ensures same_trajectories { IsSamePairs trajectories.new trajectories.old }
+    ensures same_maps { IsSamePairs maps.new maps.old }
+    ensures stored { store_of field.new trajectories.new maps.new
         ≡ run (owns (geometry t.now)) (program_of (geometry t.now) asked delta pass.now pass.now.kind)
         (store_of field.old trajectories.old maps.old) }
 {
@@ -152,6 +161,7 @@ fn run_pass(
 }
 
 // Runs the pass where its tile's tests have passed and it applies to the tile, else says none.
+#[tactic(auto, using(field::proofs::Borrows::same_field, store::proofs::Borrows::same_pairs))]
 fn run_on_tile(
     field: &mut Field<'_>,
     trajectories: &mut Pairs<'_, i32>,
@@ -160,7 +170,10 @@ fn run_on_tile(
     asked: Asked,
     pass: &Pass,
 ) -> Option<()>
-    ensures { IfSome result (λ _. Ran setup.now asked pass.now
+    ensures same_field { IsSameField field.new field.old }
+    ensures same_trajectories { IsSamePairs trajectories.new trajectories.old }
+    ensures same_maps { IsSamePairs maps.new maps.old }
+    ensures ran { IfSome result (λ _. Ran setup.now asked pass.now
         (store_of field.old trajectories.old maps.old)
         (store_of field.new trajectories.new maps.new)) }
 {
@@ -176,6 +189,7 @@ fn run_on_tile(
 }
 
 // Whether the pass of the lines agrees, if they are one. The setup has 171 numbers and the pass 14.
+#[tactic(auto, using(field::proofs::Borrows::same_field, store::proofs::Borrows::same_pairs))]
 fn agrees(
     field: &mut Field<'_>,
     trajectories: &mut Pairs<'_, i32>,
@@ -184,7 +198,10 @@ fn agrees(
     setup: &[i64],
     n: &[i64],
 ) -> Option<bool>
-    ensures { result ≡ Some true → PassAgrees setup.now n.now (store_of field.old trajectories.old maps.old) want.now }
+    ensures same_field { IsSameField field.new field.old }
+    ensures same_trajectories { IsSamePairs trajectories.new trajectories.old }
+    ensures same_maps { IsSamePairs maps.new maps.old }
+    ensures agrees { result ≡ Some true → PassAgrees setup.now n.now (store_of field.old trajectories.old maps.old) want.now }
 {
     if setup.len() != 171 || n.len() != 14 {
         return None;
@@ -208,7 +225,10 @@ pub fn judge_pass(
     setup: &[i64],
     n: &[i64],
 ) -> Verdict
-    ensures { WhenAgrees result (PassAgrees setup.now n.now (store_of field.old trajectories.old maps.old) want.now) }
+    ensures same_field { IsSameField field.new field.old }
+    ensures same_trajectories { IsSamePairs trajectories.new trajectories.old }
+    ensures same_maps { IsSamePairs maps.new maps.old }
+    ensures agrees { WhenAgrees result (PassAgrees setup.now n.now (store_of field.old trajectories.old maps.old) want.now) }
 {
     agrees(field, trajectories, maps, want, setup, n).into()
 }

@@ -10,7 +10,7 @@ use Rattle.pass_cases.proofs.agrees.Goals as goal
 abbrev was : Start → Store
 was s = let a = s.args in store_of a.field.now a.trajectories.now a.maps.now
 
-pub returns : goal.returns
-returns c = λ e.
-    agreed c.setup_of-frame.result c.args.setup.now c.args.n.now (was (goal.at.returns c).Start) c.args.want.now c.asked_at-asked.ensures c.if-not-is_record.ensures
-    c.in_ok-pass.ensures c.in_ok-run_on_tile.ensures (rw (same_Some _ _ e) at c.same_parts.ensures.listed)
+pub returns-clause-agrees : goal.returns-clause-agrees
+returns-clause-agrees c = λ e.
+    agreed c.setup_of-frame.result c.args.setup.now c.args.n.now (was (goal.at.returns-clause-agrees c).Start) c.args.want.now c.asked_at-asked.ensures c.if-not-is_record.ensures
+    c.in_ok-pass.ensures c.in_ok-run_on_tile.ensures.ran (rw (same_Some _ _ e) at c.same_parts.ensures.listed)

@@ -4,8 +4,8 @@ use Rattle.field.specs.Lent.{store_of}
 use Rattle.pass_cases.proofs.PassCase.{emptied}
 use Rattle.pass_cases.proofs.empty.Goals as goal
 
-pub returns : goal.returns
-returns c =
+pub returns-clause-stored : goal.returns-clause-stored
+returns-clause-stored c =
     let a = c.args in
     let u₀ = store_of a.field.now a.trajectories.now a.maps.now in
     let u₁ = store_of c.copy_rows.new.field a.trajectories.now a.maps.now in
