@@ -149,10 +149,10 @@ fn show_loaded<W: Write>(
     requires complete { Complete file.now setup.now }
     ensures { Shows W.contents wanted file.now to.old to.new result }
 {
-    // A field of 256 x 256 cells, empty.
-    let mut ys: [i32; 65536] = from_file::filled(levels::INVALID_MV);
-    let mut xs: [i32; 65536] = from_file::filled(0);
-    let mut references: [u8; 65536] = from_file::filled(0);
+    // A field of 256 x 256 cells, empty. Literals, and not made by `from_file::filled`: what a function answers takes room of its own on the stack.
+    let mut ys = [levels::INVALID_MV; 65536];
+    let mut xs = [0i32; 65536];
+    let mut references = [0u8; 65536];
     let mut field = Field {
         y: &mut ys,
         x: &mut xs,
@@ -189,6 +189,8 @@ fn show_input<R: Read, W: Write>(
     show(to, &file[..n], wanted)
 }
 
+// `inline(never)`: the buffers stand in its frame, and what is wrong with the arguments is told without their room.
+#[inline(never)]
 fn run<R: Read, W: Write>(from: &mut R, to: &mut W, wanted: Wanted) -> Result<u32, Problem> {
     let mut file: [u8; 2753636] = from_file::filled(0);
     show_input(from, to, wanted, &mut file)

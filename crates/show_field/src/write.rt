@@ -1,6 +1,6 @@
 //! Writes a field to a writer: of a text a row of cells at a time, of a picture its head and then a row of pixels
 //! at a time. It stops at the first write that fails.
-ghost use Rattle.std.specs.Prelude.{IfOk, OnOk, ◌≡◌, ◌+◌, ◌*◌, ◌/◌, ◌≤◌, ◌<◌, ◌++◌, [], length};
+ghost use Rattle.std.specs.Prelude.{false, is_err, IfOk, OnOk, ◌≡◌, ◌+◌, ◌*◌, ◌/◌, ◌≤◌, ◌<◌, ◌++◌, [], length};
 ghost use Rattle.std.specs.Io.KnownBytes.{Appends};
 ghost use Rattle.arrayvec.specs.ArrayVec.{array_vec_len};
 ghost use Rattle.load.specs.Load.{wide_of, high_of, stride_of};
@@ -27,6 +27,21 @@ fn parts_of(wanted: Wanted, setup: &Frame) -> u32
         Wanted::Text => checks::high_of(setup) as u32,
         Wanted::Picture => setup.height + 1,
     }
+}
+
+/// What has been handed over of a field: how many parts, and whether the last write failed.
+#[derive(Clone, Copy)]
+pub struct Sent {
+    pub parts: u32,
+    pub failed: bool,
+}
+
+impl Sent {
+    // Nothing yet.
+    const NONE: Sent = Sent {
+        parts: 0,
+        failed: false,
+    };
 }
 
 // That the buffer has room for a part is a clause of each function: it is lent, and of a fixed length (no heap). That the
@@ -84,22 +99,28 @@ impl<'f, 'c> View<'f, 'c> {
         }
     }
 
-    // Part k is handed over, whether or not the write fails.
+    // The part that comes next is handed over, and counted whether or not the write fails. After a write that has failed none comes next.
     fn write_part<W: Write, const N: usize>(
         &self,
         to: &mut W,
-        k: u32,
+        sent: &mut Sent,
         out: &mut ArrayVec<u8, N>,
     ) -> io::Result<()>
         requires of_file { FieldOfFile self.now.setup.now self.now.cells.y.now self.now.cells.x.now self.now.cells.reference.now }
-        requires part { k < parts_of self.now.wanted self.now.setup.now }
+        requires part { sent.old.parts < parts_of self.now.wanted self.now.setup.now }
+        requires none_failed { sent.old.failed ≡ false }
         requires room { 14592 ≤ N }
-        ensures handed { out.new.items ≡ part_of self.now.wanted self.now.setup.now self.now.cells.y.now self.now.cells.x.now self.now.cells.reference.now k }
-        ensures written { OnOk result (Appends (W.contents to.old) (W.contents to.new) (part_of self.now.wanted self.now.setup.now self.now.cells.y.now self.now.cells.x.now self.now.cells.reference.now k)) }
+        ensures counted { sent.new.parts ≡ sent.old.parts + 1 }
+        ensures failed { sent.new.failed ≡ is_err result }
+        ensures handed { out.new.items ≡ part_of self.now.wanted self.now.setup.now self.now.cells.y.now self.now.cells.x.now self.now.cells.reference.now sent.old.parts }
+        ensures written { OnOk result (Appends (W.contents to.old) (W.contents to.new) (part_of self.now.wanted self.now.setup.now self.now.cells.y.now self.now.cells.x.now self.now.cells.reference.now sent.old.parts)) }
     {
         out.clear();
-        self.put_part(k, out);
-        text::write_out(to, out.as_slice())
+        self.put_part(sent.parts, out);
+        let written = text::write_out(to, out.as_slice());
+        sent.parts += 1;
+        sent.failed = written.is_err();
+        written
     }
 
     // Writes all parts, and answers how many they are.
@@ -110,12 +131,11 @@ impl<'f, 'c> View<'f, 'c> {
     {
         // 256 lines of at most 57 bytes; a row of 2,048 pixels has 6,144.
         let mut out = ArrayVec::<u8, 14592>::new();
-        let parts = parts_of(self.wanted, self.setup);
-        // By number: a part is what its number says.
-        for k in 0..parts {
-            self.write_part(to, k, &mut out)?;
+        let mut sent = Sent::NONE;
+        for _ in 0..parts_of(self.wanted, self.setup) {
+            self.write_part(to, &mut sent, &mut out)?;
         }
-        Ok(parts)
+        Ok(sent.parts)
     }
 }
 

@@ -11,7 +11,7 @@ pub load_field-requires : goal.load_field-requires
 unfolding empty_store
 load_field-requires g c =
     let a = c.requires.complete in
-    record { frame = a.frame; width = a.width; height = a.height; long = a.long; empty = record { y = c.filled-ys.ensures.elements; x = c.filled-xs.ensures.elements; reference = c.filled-references.ensures.elements } }
+    record { frame = a.frame; width = a.width; height = a.height; long = a.long; empty = record { y = refl; x = refl; reference = refl } }
 
 pub returns-in_err-map_err : goal.returns-in_err-map_err
 returns-in_err-map_err g c =
