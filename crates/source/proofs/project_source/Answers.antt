@@ -2,16 +2,18 @@
 use Rattle.std.proofs.Common.{◌≡◌, sym, ap, ◌∙◌, true, false, ℕ, ◌-◌, ◌≤◌, arith, negsuc, length, drop, length-drop, w8, SFits, rules, List, ◌+◌, ◌*◌, ◌<◌, ℤ, take}
 use Rattle.intops.proofs.Signed.{signed!, eq_yes, eq_no}
 use Rattle.intops.specs.Choice.{eq_z}
+use Rattle.loops.proofs.Same.{turn_below}
 use Rattle.tile.specs.Geometry.{Geometry}
 use Rattle.tile.specs.Sound.{Sound}
 use Rattle.tile.specs.Tiles.{geometry}
+use Rattle.tile.proofs.Places.{step_some}
 use Rattle.project.specs.Project.{saved_at, sample}
 use Rattle.project.specs.Tested.{block_fine, row_fine}
 use Rattle.project.proofs.Owned.{block_fine_lem}
 use Rattle.project.proofs.Tested.{slots_low}
 use Rattle.saved.proofs.Parts.{rest, rows_in, block_same}
-use Rattle.source.proofs.Rounds.{parts, IsDone, rest_turn, rest_ends, readable, same_numbers, no_plane, too_far, source_on}
-use Rattle.source.proofs.project_source.Goals.{Else-s, Left-loop-x, else-loop-x-test, then-loop-x-test+else-x-step-end}
+use Rattle.source.proofs.Rounds.{parts, IsDone, rest_turn, rest_ends, counted_turn, counted_ends, readable, same_numbers, no_plane, too_far, source_on}
+use Rattle.source.proofs.project_source.Goals.{Else-s, After-loop-i}
 use Rattle.source.proofs.project_source.Goals as goal
 
 -- the part of the planes from place i on, where the rows of slot n begin
@@ -67,39 +69,32 @@ pub sample-requires-clause-fine : goal.sample-requires-clause-fine
 sample-requires-clause-fine c =
     let a = c.args in let t = geometry a.t.now in let s = a.s.now in let l = a.planes.now in
     let f : row_fine t l s ≡ true = c.requires.fine (rw (near (goal.at.sample-requires-clause-fine c).Else-s, c.if-not-present.false)) in
-    let p : c.loop-x.x < t.wide = omega (arith, c.loop-x-test.true, c.min-end.ensures) in
     let u = c.loop-y.invariant in
-    block_same t l _ s.reference.0 c.loop-y.y c.loop-x.x u.from (part_is t _ s.reference.0 _ l c.rows_at-at.ensures c.index-n.ensures) block_fine s.dir
-    ∙ block_fine_lem t a.t.now.sound s (slots_low s c.requires.source) l f c.loop-y.y c.loop-x.x u.from c.loop-y-test.true u.on p c.loop-x.invariant.on
+    let w = turn_below t.step c.saturating_sub-from.result c.min-end.result c.loop-i.i (step_some t a.t.now.sound) (omega (arith, c.loop-i-test.true, c.count-count.ensures)) in
+    block_same t l _ s.reference.0 c.loop-y.y (c.saturating_sub-from.result + c.loop-i.i * t.step) u.from (part_is t _ s.reference.0 _ l c.rows_at-at.ensures c.index-n.ensures) block_fine s.dir
+    ∙ block_fine_lem t a.t.now.sound s (slots_low s c.requires.source) l f c.loop-y.y (c.saturating_sub-from.result + c.loop-i.i * t.step) u.from c.loop-y-test.true u.on (omega (arith, w, c.min-end.ensures)) c.loop-i.invariant.on
 
-pub loop-x-preserved : goal.loop-x-preserved
-loop-x-preserved c =
+pub loop-i-preserved : goal.loop-i-preserved
+loop-i-preserved c =
     let a = c.args in let t = geometry a.t.now in let e = c.sample.ensures in
-    rest_turn t _ _ _ a.t.now.sound c.loop-x.x (parts c.loop-x.field c.loop-x.trajectories c.loop-x.maps) (parts c.loop-y.field c.loop-y.trajectories c.loop-y.maps) c.loop-x.invariant
-    (parts c.sample.new.field c.sample.new.trajectories c.sample.new.maps) (omega arith) (record { field = e.same_field; trajectories = e.same_trajectories; maps = e.same_maps })
+    counted_turn t _ _ _ a.t.now.sound c.loop-i.i (parts c.loop-i.field c.loop-i.trajectories c.loop-i.maps) (parts c.loop-y.field c.loop-y.trajectories c.loop-y.maps) c.loop-i.invariant
+    (parts c.sample.new.field c.sample.new.trajectories c.sample.new.maps) (omega (arith, c.loop-i-test.true, c.count-count.ensures)) (record { field = e.same_field; trajectories = e.same_trajectories; maps = e.same_maps })
     (e.stored a.planes.now a.s.now (part_is t _ a.s.now.reference.0 _ a.planes.now c.rows_at-at.ensures c.index-n.ensures) (same_numbers a.s.now))
 
--- what the row's loop has done, whichever way it ended
-row_done : (c : Left-loop-x) → let t = geometry c.args.t.now in
-    IsDone t (λ x. sample t c.args.traj c.args.planes.now c.args.s.now c.loop-y.y x) c.saturating_sub-from.result c.min-end.result (parts c.loop-x-test.field c.loop-x-test.trajectories c.loop-x-test.maps)
+-- what the row's loop has done
+row_done : (c : After-loop-i) → let t = geometry c.args.t.now in
+    IsDone t (λ x. sample t c.args.traj c.args.planes.now c.args.s.now c.loop-y.y x) c.saturating_sub-from.result c.min-end.result (parts c.loop-i.field c.loop-i.trajectories c.loop-i.maps)
     (parts c.loop-y.field c.loop-y.trajectories c.loop-y.maps)
 row_done c =
-    let a = c.args in let t = geometry a.t.now in let k = a.t.now.sound in
-    let now = parts c.loop-x.field c.loop-x.trajectories c.loop-x.maps in let was = parts c.loop-y.field c.loop-y.trajectories c.loop-y.maps in
-    elim c.loop-x-test.branch [
-      | else-loop-x-test w ↦ rw (w.field-is, w.trajectories-is, w.maps-is) (rest_ends t _ _ _ k c.loop-x.x now was c.loop-x.invariant w.loop-x-test.false)
-      | then-loop-x-test+else-x-step-end w ↦
-          let e = w.sample.ensures in let next = parts w.sample.new.field w.sample.new.trajectories w.sample.new.maps in
-          let r = rest_turn t _ _ _ k c.loop-x.x now was c.loop-x.invariant next w.loop-x-test.true (record { field = e.same_field; trajectories = e.same_trajectories; maps = e.same_maps })
-          (e.stored a.planes.now a.s.now (part_is t _ a.s.now.reference.0 _ a.planes.now c.rows_at-at.ensures c.index-n.ensures) (same_numbers a.s.now)) in
-          rw (w.field-is, w.trajectories-is, w.maps-is) (rest_ends t _ _ _ k (c.loop-x.x + t.step) next was r (omega arith))
-    ]
+    let t = geometry c.args.t.now in
+    counted_ends t _ _ _ c.args.t.now.sound c.loop-i.i (parts c.loop-i.field c.loop-i.trajectories c.loop-i.maps) (parts c.loop-y.field c.loop-y.trajectories c.loop-y.maps) c.loop-i.invariant
+    (omega (arith, c.loop-i-test.false, c.count-count.ensures))
 
 pub loop-y-preserved : goal.loop-y-preserved
 loop-y-preserved c =
-    let a = c.args in let d = row_done (goal.at.loop-y-preserved c).Left-loop-x in
+    let a = c.args in let d = row_done (goal.at.loop-y-preserved c).After-loop-i in
     rest_turn (geometry a.t.now) _ _ _ a.t.now.sound c.loop-y.y (parts c.loop-y.field c.loop-y.trajectories c.loop-y.maps) (parts a.field.now a.trajectories.now a.maps.now) c.loop-y.invariant
-    (parts c.loop-x-test.field c.loop-x-test.trajectories c.loop-x-test.maps) (omega arith) d.same d.stored
+    (parts c.loop-i.field c.loop-i.trajectories c.loop-i.maps) (omega arith) d.same d.stored
 
 pub returns-else-s-clause-stored : goal.returns-else-s-clause-stored
 returns-else-s-clause-stored c = λ held h.
@@ -111,8 +106,8 @@ returns-else-s-clause-stored c = λ held h.
 pub returns-else-s-2-clause-stored : goal.returns-else-s-2-clause-stored
 returns-else-s-2-clause-stored c = λ held h.
     let a = c.args in let t = geometry a.t.now in let s = a.s.now in let k = a.t.now.sound in
-    let d = row_done (goal.at.returns-else-s-2-clause-stored c).Left-loop-x in
-    let next = parts c.loop-x-test.field c.loop-x-test.trajectories c.loop-x-test.maps in let was = parts a.field.now a.trajectories.now a.maps.now in
+    let d = row_done (goal.at.returns-else-s-2-clause-stored c).After-loop-i in
+    let next = parts c.loop-i.field c.loop-i.trajectories c.loop-i.maps in let was = parts a.field.now a.trajectories.now a.maps.now in
     let r = rest_turn t _ _ _ k c.loop-y.y (parts c.loop-y.field c.loop-y.trajectories c.loop-y.maps) was c.loop-y.invariant next c.loop-y-test.true d.same d.stored in
     let e = rest_ends t _ _ _ k (c.loop-y.y + t.step) next was r (omega arith) in
     source_on t a.traj held a.planes.now s _ (near (goal.at.returns-else-s-2-clause-stored c).Else-s) (h ∙ c.if-not-present.false) _ _ c.saturating_sub-from.ensures c.min-end.ensures _ e.stored
