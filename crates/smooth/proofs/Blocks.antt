@@ -20,7 +20,7 @@ use Rattle.field.specs.Field.{as_byte, around, smooth_cell, smooth_block, smooth
 use Rattle.field.specs.declared.Field.{Field}
 use Rattle.field.specs.Lent.{IsSameField, vector_in, stored}
 use Rattle.field.proofs.Borrows.{same_field, same_after}
-use Rattle.smooth.specs.Code.{InBlock, mean_in}
+use Rattle.smooth.specs.Code.{InBlock, AreRows, mean_in}
 use Rattle.field.proofs.Owned.{around_same}
 
 -- eight rows of eight means hold the values of the rows before a, and of row a before column b
@@ -31,6 +31,9 @@ pub record Lined (f : ℕ → ℕ → Mv) (cols a b : ℕ) (means : List (List M
   pub row : (j : ℕ) → j < b → mean_in means a j ≡ f a j
 
 module _ (f : ℕ → ℕ → Mv) (cols : ℕ) (few : cols ≤ 8) where
+  pub line_start : (means : List (List Mv)) → AreRows means → Lined f cols 0 0 means
+  line_start means h = record { long = h.long; wide = h.wide; rows = λ i j l m. absurd (omega arith); row = λ j l. absurd (omega arith) }
+
   pub line_next : (a b : ℕ) (means : List (List Mv)) (v : Mv) → a < 8 → b < cols → v ≡ f a b → Lined f cols a b means → Lined f cols a (b + 1) (set means a (set (get_or means a []) b v))
   line_next a b means v p q e h =
       let new = set means a (set (get_or means a []) b v) in

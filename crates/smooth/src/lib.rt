@@ -13,7 +13,7 @@ ghost use Rattle.tile.specs.Sampled.{IsSampled};
 ghost use Rattle.tile.specs.Tiles.{geometry};
 ghost use Rattle.field.specs.Field.{added_if, around, smooth_block, smoothen};
 ghost use Rattle.field.specs.Lent.{AreVectorsHeld, IsHeld, IsSameField, vector_in, stored};
-ghost use Rattle.smooth.specs.Code.{InBlock, mean_in};
+ghost use Rattle.smooth.specs.Code.{InBlock, AreRows, mean_in};
 
 use field::Field;
 use levels::Mv;
@@ -62,14 +62,14 @@ struct Block {
     cols: usize,
 }
 
-// The means of a block's sampled cells, in rows of eight: cell (a, b) is element b of row a.
-fn block_means(field: &Field<'_>, t: &Tile, block: Block) -> [[Mv; 8]; 8]
+// The means of a block's sampled cells go into rows of eight: cell (a, b) is element b of row a.
+fn block_means(field: &Field<'_>, t: &Tile, block: Block, means: &mut [[Mv; 8]; 8])
     requires inside { InBlock (geometry t.now) block.start block.end block.top block.rows block.cols }
     requires held { AreVectorsHeld (geometry t.now) field.now }
-    ensures { (a b : ℕ) → a < block.rows → b < block.cols → mean_in result a b
+    requires means { AreRows means.old }
+    ensures { (a b : ℕ) → a < block.rows → b < block.cols → mean_in means.new a b
         ≡ smoothed_of (around (geometry t.now) (vector_in field.now) block.start block.end (block.top + a * t.now.step) (block.start + b * t.now.step)) }
 {
-    let mut means = [[Mv::EMPTY; 8]; 8];
     // Sampled rows and columns are counted: of their numbers both the cell and the place of its mean are made.
     for a in 0..block.rows {
         for b in 0..block.cols {
@@ -82,7 +82,6 @@ fn block_means(field: &Field<'_>, t: &Tile, block: Block) -> [[Mv; 8]; 8]
             means[a][b] = around_at(field, t, at).smoothed();
         }
     }
-    means
 }
 
 // The means go to the block's sampled cells, each with the distance.
@@ -123,7 +122,9 @@ fn smooth_block(field: &mut Field<'_>, t: &Tile, delta: i8, start: usize, end: u
         rows: t.count(top, t.bottom.min(top + t.block)),
         cols: t.count(start, end),
     };
-    let means = block_means(field, t, block);
+    // Lent, as an answer of 512 bytes is copied twice.
+    let mut means = [[Mv::EMPTY; 8]; 8];
+    block_means(field, t, block, &mut means);
     put_means(field, &means, t, delta, block);
 }
 

@@ -2,7 +2,7 @@
 use Rattle.std.proofs.Common.{ap, ◌∙◌, ◌≤◌, arith}
 use Rattle.mv.specs.Sums.{smoothed_of}
 use Rattle.tile.specs.Tiles.{geometry}
-use Rattle.smooth.proofs.Blocks.{line_next, line_row, few_rows, few_cols}
+use Rattle.smooth.proofs.Blocks.{line_start, line_next, line_row, few_rows, few_cols}
 use Rattle.smooth.proofs.block_means.Goals.{Start}
 use Rattle.smooth.proofs.block_means.Goals as goal
 
@@ -11,6 +11,9 @@ rows_few s = let a = s.args in few_rows (geometry a.t.now) a.t.now.sound a.block
 
 cols_few : (s : Start) → s.args.block.cols ≤ 8
 cols_few s = let a = s.args in few_cols (geometry a.t.now) a.t.now.sound a.block.start a.block.end a.block.top a.block.rows a.block.cols s.requires.inside
+
+pub loop-a-init : goal.loop-a-init
+loop-a-init c = line_start _ c.args.block.cols (cols_few (goal.at.loop-a-init c).Start) c.args.means.now c.requires.means
 
 pub loop-b-preserved : goal.loop-b-preserved
 loop-b-preserved c =

@@ -24,5 +24,5 @@ block c =
 
 pub returns-clause-stored : goal.returns-clause-stored
 returns-clause-stored c =
-    let a = c.args in let f = c.ranges.delta in let m = c.block_means-means in
-    block_on (geometry a.t.now) a.delta a.start a.end a.top _ _ m.result a.t.now.sound (block (goal.at.returns-clause-stored c).After-count-2) a.field.now c.put_means.new.field m.ensures (simp back at c.put_means.ensures.stored)
+    let a = c.args in let f = c.ranges.delta in let m = c.block_means in
+    block_on (geometry a.t.now) a.delta a.start a.end a.top _ _ m.new.means a.t.now.sound (block (goal.at.returns-clause-stored c).After-count-2) a.field.now c.put_means.new.field m.ensures (simp back at c.put_means.ensures.stored)
