@@ -29,10 +29,12 @@ fn parts_of(wanted: Wanted, setup: &Frame) -> u32
     }
 }
 
-/// What has been handed over of a field: how many parts, and whether the last write failed.
+/// The receipt of what has been handed over of a field.
 #[derive(Clone, Copy)]
 pub struct Sent {
+    /// How many parts.
     pub parts: u32,
+    /// Whether the last write failed.
     pub failed: bool,
 }
 
