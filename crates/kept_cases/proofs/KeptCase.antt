@@ -5,7 +5,7 @@ use Rattle.std.specs.Int.{FitsUnsignedBits}
 use Rattle.cases.specs.Numbers.{at}
 use Rattle.load_cases.specs.LoadCase.{Listed, ListedBytes}
 
-pos_abs : (k : ℕ) (z : ℤ) → FitsUnsignedBits k z → z ≡ pos (nat_abs z)
+pub pos_abs : (k : ℕ) (z : ℤ) → FitsUnsignedBits k z → z ≡ pos (nat_abs z)
 pos_abs k (pos m) h = refl
 pos_abs k (negsuc m) h = absurd h
 

@@ -1,5 +1,5 @@
 -- What tests 9 and 12 say of a source and of a saved block. Assumes nothing.
-use Rattle.std.proofs.Common.{◌≡◌, refl, sym, ap, ◌∙◌, Bool, true, false, not, ◌&&◌, ◌||◌, if◌then◌else◌, None, Some, Result, Ok, Err, ℕ, zero, suc, ◌+◌, ◌≤◌, ◌<◌, arith, add-one, leb-true, ltb-true, eqb-true, eqb, leb, ltb, ℤ, pos, negsuc, nat_abs, get_or, w8, SFits}
+use Rattle.std.proofs.Common.{◌≡◌, refl, sym, ap, ◌∙◌, Bool, true, false, not, ◌&&◌, ◌||◌, if◌then◌else◌, None, Some, Result, Ok, Err, ℕ, zero, suc, ◌+◌, ◌≤◌, ◌<◌, arith, add-one, leb-true, leb-false, ltb-true, eqb-true, eqb, leb, ltb, ℤ, pos, negsuc, nat_abs, get_or, w8, SFits}
 use Rattle.std.specs.Int.{FitsUnsignedBits}
 use Rattle.std.specs.Prelude.{OkIff}
 use Rattle.std.specs.Result.{result_ok}
@@ -36,6 +36,18 @@ module _ (p : ℕ → Bool) where
 
   pub all_end : (n i : ℕ) (b : Bool) → i ≤ n → n ≤ i → b ≡ all_below i p → b ≡ all_below n p
   all_end n i b l h e = let q : i ≡ n = omega arith in e ∙ ap (λ (m : ℕ). all_below m p) q
+
+-- a range around 0 is a bound on the magnitude
+pub abs_within : (n : ℕ) (z : ℤ) → within (negsuc n) (pos (suc n)) z ≡ leb (nat_abs z) (suc n)
+abs_within n z = go (leb (nat_abs z) (suc n)) (lt_z z (negsuc n)) (lt_z (pos (suc n)) z) refl refl refl
+  where
+    go : (p q r : Bool) → leb (nat_abs z) (suc n) ≡ p → lt_z z (negsuc n) ≡ q → lt_z (pos (suc n)) z ≡ r → (not q && not r) ≡ p
+    go true true r e f g = absurd (omega (signed, ud z, leb-true (nat_abs z) (suc n) e))
+    go true false true e f g = absurd (omega (signed, ud z, leb-true (nat_abs z) (suc n) e))
+    go true false false e f g = refl
+    go false true r e f g = refl
+    go false false true e f g = refl
+    go false false false e f g = absurd (omega (signed, ud z, leb-false (nat_abs z) (suc n) e))
 
 pub within_bounds : (a b z : ℤ) → within a b z ≡ true → (lt_z z a ≡ false) × (lt_z b z ≡ false)
 within_bounds a b z h =

@@ -26,7 +26,7 @@ pub record Ready (c : Call) (s : Store) (t : Geometry) : Type 0 where
   pub trajectories : TrajHeld t s.traj_y s.traj_x
   pub maps : MapHeld t s.map_y s.map_x
 
-rows_above : (c : Call) → c.whole_frame ≡ false → (tile_of c).offset ≡ 3 * (tile_of c).stride
+pub rows_above : (c : Call) → c.whole_frame ≡ false → (tile_of c).offset ≡ 3 * (tile_of c).stride
 unfolding tile_of
 rows_above c h = ap (λ (w : Bool). cond w c.row_start 3 * stride_of c.setup) h
 

@@ -27,7 +27,7 @@ unfolding text pair_line line_of numbers_line digits unpack_mag first_with pack_
 example = refl
 
 -- the text from a pair on
-text_pair : (l : List ℕ) (i : ℕ) → i + 1 < length l → text (drop i l) ≡ pair_line (get_or l i 0) (get_or l (i + 1) 0) ++ text (drop (i + 2) l)
+pub text_pair : (l : List ℕ) (i : ℕ) → i + 1 < length l → text (drop i l) ≡ pair_line (get_or l i 0) (get_or l (i + 1) 0) ++ text (drop (i + 2) l)
 unfolding text
 text_pair l i h =
     let two : i + 2 ≡ suc (suc i) = omega arith in
@@ -35,17 +35,17 @@ text_pair l i h =
     rw (two, add-one) (ap text e)
 
 -- the text from a lone last byte on
-text_lone : (l : List ℕ) (i : ℕ) → i + 1 ≡ length l → text (drop i l) ≡ short_line
+pub text_lone : (l : List ℕ) (i : ℕ) → i + 1 ≡ length l → text (drop i l) ≡ short_line
 unfolding text
 text_lone l i h =
     let e = drop-cons l i 0 (omega arith) ∙ ap (λ (t : List ℕ). get_or l i 0 ∷ t) (drop_of_length-le l {i = suc i} (omega arith)) in ap text e
 
 -- the text from the end on
-text_end : (l : List ℕ) (i : ℕ) → i ≡ length l → text (drop i l) ≡ []
+pub text_end : (l : List ℕ) (i : ℕ) → i ≡ length l → text (drop i l) ≡ []
 unfolding text
 text_end l i e = rw (e, drop-length)
 
-pair_line_lem : {y x : ℤ} (a b : ℕ) → y ≡ signed_byte a → x ≡ signed_byte b → line_of (unpacked (record { y = y; x = x })) ≡ pair_line a b
+pub pair_line_lem : {y x : ℤ} (a b : ℕ) → y ≡ signed_byte a → x ≡ signed_byte b → line_of (unpacked (record { y = y; x = x })) ≡ pair_line a b
 unfolding pair_line
 pair_line_lem a b e h = rw (e, h)
 
