@@ -1,5 +1,5 @@
 -- Folds whose steps do the same within the fold's range; which numbers a loop meets. Assumes nothing.
-use Rattle.std.proofs.Common.{◌≡◌, refl, ap, ◌∙◌, ℕ, zero, suc, ◌+◌, ◌-◌, ◌*◌, ◌/◌, ◌≤◌, ◌<◌, add-mul, mul-le-mul_right, div-mul-le_self, arith}
+use Rattle.std.proofs.Common.{◌≡◌, refl, ap, ◌∙◌, ℕ, zero, suc, ◌+◌, ◌-◌, ◌*◌, ◌/◌, ◌≤◌, ◌<◌, add-mul, mul-le-mul_right, div-mul-le_self, div-add-mod', mod-lt, arith}
 use Rattle.loops.specs.Over.{over, span, span_by}
 
 pub over_same : {S : Type 0} (d n p : ℕ) (f g : ℕ → S → S) → ((j : ℕ) → j < n → (s : S) → f (p + j * d) s ≡ g (p + j * d) s)
@@ -16,6 +16,10 @@ pub turn_below : (d a b j : ℕ) → 0 < d → j < (b - a + (d - 1)) / d → a +
 turn_below d a b j z h =
     let m : (j + 1) * d ≤ (b - a + (d - 1)) / d * d = mul-le-mul_right d (omega arith) in
     omega (arith, m, add-mul j 1 d, div-mul-le_self (b - a + (d - 1)) d)
+
+-- once the turns are counted, b is reached
+pub turns_past : (d a b j : ℕ) → 0 < d → (b - a + (d - 1)) / d ≤ j → b ≤ a + j * d
+turns_past d a b j z h = let n : ℕ = b - a + (d - 1) in omega (arith, mul-le-mul_right d h, div-add-mod' n d, mod-lt n z)
 
 -- turns by d from p on, counted
 by_index : {S : Type 0} (d n p j : ℕ) (f : ℕ → S → S) (s : S) → over f d n (p + j * d) s ≡ over (λ i. f (p + i * d)) 1 n j s

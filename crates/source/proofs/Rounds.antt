@@ -1,10 +1,10 @@
 -- The loops over a source's blocks, as code runs them: what is left from where a loop is, on the parts as they are, is the whole of it on the parts where it began. Assumes nothing.
-use Rattle.std.proofs.Common.{◌≡◌, refl, ◌∙◌, Bool, true, false, not, ◌&&◌, List, ℕ, ◌+◌, ◌-◌, ◌*◌, ◌/◌, ◌%◌, ◌≤◌, ◌<◌, min, add-mul, mul-le-mul_right, mod-lt, div-add-mod', arith, ℤ, negsuc, get_or}
+use Rattle.std.proofs.Common.{◌≡◌, refl, ◌∙◌, Bool, true, false, not, ◌&&◌, List, ℕ, ◌+◌, ◌-◌, ◌*◌, ◌/◌, ◌%◌, ◌≤◌, ◌<◌, min, add-mul, arith, ℤ, negsuc, get_or}
 use Rattle.std.proofs.Math.Nat.{add-mod_right}
 use Rattle.intops.specs.Choice.{eq_z}
 use Rattle.intops.proofs.Tests.{and_false_right}
 use Rattle.loops.specs.Over.{span_by}
-use Rattle.loops.proofs.Same.{turn_below}
+use Rattle.loops.proofs.Same.{turn_below, turns_past}
 use Rattle.loops.proofs.Turns.{turned_by, ended_by}
 use Rattle.entry.specs.declared.Source.{Source}
 use Rattle.store.specs.declared.Pairs.{Pairs}
@@ -86,9 +86,7 @@ module _ (t : Geometry) (f : ℕ → Prog) (a b : ℕ) where
         rw p at (rest_turn k (a + i * t.step) now was r next (turn_below t.step a b i (step_some t k) h) q e)
 
     pub counted_ends : (b - a + (t.step - 1)) / t.step ≤ i → IsDone now was
-    counted_ends h =
-        let n : ℕ = b - a + (t.step - 1) in
-        rest_ends k (a + i * t.step) now was r (omega (arith, mul-le-mul_right t.step h, div-add-mod' n t.step, mod-lt n (step_some t k)))
+    counted_ends h = rest_ends k (a + i * t.step) now was r (turns_past t.step a b i (step_some t k) h)
 
 -- a row's sampled columns
 abbrev pub row : Geometry → Bool → List ℤ → Source → ℕ → ℕ → ℕ → Prog

@@ -70,9 +70,10 @@ sample-requires-clause-fine c =
     let a = c.args in let t = geometry a.t.now in let s = a.s.now in let l = a.planes.now in
     let f : row_fine t l s ≡ true = c.requires.fine (rw (near (goal.at.sample-requires-clause-fine c).Else-s, c.if-not-present.false)) in
     let u = c.loop-y.invariant in
+    let x : ℕ = c.saturating_sub-from.result + c.loop-i.i * t.step in
     let w = turn_below t.step c.saturating_sub-from.result c.min-end.result c.loop-i.i (step_some t a.t.now.sound) (omega (arith, c.loop-i-test.true, c.count-count.ensures)) in
-    block_same t l _ s.reference.0 c.loop-y.y (c.saturating_sub-from.result + c.loop-i.i * t.step) u.from (part_is t _ s.reference.0 _ l c.rows_at-at.ensures c.index-n.ensures) block_fine s.dir
-    ∙ block_fine_lem t a.t.now.sound s (slots_low s c.requires.source) l f c.loop-y.y (c.saturating_sub-from.result + c.loop-i.i * t.step) u.from c.loop-y-test.true u.on (omega (arith, w, c.min-end.ensures)) c.loop-i.invariant.on
+    block_same t l _ s.reference.0 c.loop-y.y x u.from (part_is t _ s.reference.0 _ l c.rows_at-at.ensures c.index-n.ensures) block_fine s.dir
+    ∙ block_fine_lem t a.t.now.sound s (slots_low s c.requires.source) l f c.loop-y.y x u.from c.loop-y-test.true u.on (omega (arith, w, c.min-end.ensures)) c.loop-i.invariant.on
 
 pub loop-i-preserved : goal.loop-i-preserved
 loop-i-preserved c =
