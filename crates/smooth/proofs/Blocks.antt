@@ -25,36 +25,36 @@ use Rattle.field.proofs.Owned.{around_same}
 
 -- eight rows of eight means hold the values of the rows before a, and of row a before column b
 pub record Lined (f : ℕ → ℕ → Mv) (cols a b : ℕ) (means : List (List Mv)) : Type 0 where
-  pub long : length means ≡ 8
-  pub wide : (i : ℕ) → i < 8 → length (get_or means i []) ≡ 8
+  pub shape : AreRows means
   pub rows : (i j : ℕ) → i < a → j < cols → mean_in means i j ≡ f i j
   pub row : (j : ℕ) → j < b → mean_in means a j ≡ f a j
 
 module _ (f : ℕ → ℕ → Mv) (cols : ℕ) (few : cols ≤ 8) where
   pub line_start : (means : List (List Mv)) → AreRows means → Lined f cols 0 0 means
-  line_start means h = record { long = h.long; wide = h.wide; rows = λ i j l m. absurd (omega arith); row = λ j l. absurd (omega arith) }
+  line_start means h = record { shape = h; rows = λ i j l m. absurd (omega arith); row = λ j l. absurd (omega arith) }
 
   pub line_next : (a b : ℕ) (means : List (List Mv)) (v : Mv) → a < 8 → b < cols → v ≡ f a b → Lined f cols a b means → Lined f cols a (b + 1) (set means a (set (get_or means a []) b v))
   line_next a b means v p q e h =
       let new = set means a (set (get_or means a []) b v) in
-      let same : get_or new a [] ≡ set (get_or means a []) b v = get_or-set_same means a (set (get_or means a []) b v) [] (omega (arith, h.long)) in
+      let same : get_or new a [] ≡ set (get_or means a []) b v = get_or-set_same means a (set (get_or means a []) b v) [] (omega (arith, h.shape.long)) in
       let other : (i : ℕ) → i ≢ a → get_or new i [] ≡ get_or means i [] = λ i z. get_or-set_other means a i (set (get_or means a []) b v) [] z in
       record {
-        long = length-set means a (set (get_or means a []) b v) ∙ h.long;
-        wide = λ i l. is_or i a (λ z. rw (z, same) (length-set (get_or means a []) b v ∙ h.wide a p)) (λ z. rw (other i z) (h.wide i l));
+        shape = record {
+          long = length-set means a (set (get_or means a []) b v) ∙ h.shape.long;
+          wide = λ i l. is_or i a (λ z. rw (z, same) (length-set (get_or means a []) b v ∙ h.shape.wide a p)) (λ z. rw (other i z) (h.shape.wide i l));
+        };
         rows = λ i j l m. rw (other i (λ z. omega arith)) (h.rows i j l m);
         row = λ j l.
             rw same
             (is_or j b
-            (λ z. rw z (get_or-set_same (get_or means a []) b v (vec (pos 0) (pos 0)) (omega (arith, h.wide a p)) ∙ e))
+            (λ z. rw z (get_or-set_same (get_or means a []) b v (vec (pos 0) (pos 0)) (omega (arith, h.shape.wide a p)) ∙ e))
             (λ z. get_or-set_other (get_or means a []) b j v (vec (pos 0) (pos 0)) z ∙ h.row j (omega arith)));
       }
 
   pub line_row : (a b : ℕ) (means : List (List Mv)) → cols ≤ b → Lined f cols a b means → Lined f cols (a + 1) 0 means
   line_row a b means p h =
       record {
-        long = h.long;
-        wide = h.wide;
+        shape = h.shape;
         rows = λ i j l m. is_or i a (λ z. rw z (h.row j (omega arith))) (λ z. h.rows i j (omega arith) m);
         row = λ j l. absurd (omega arith);
       }

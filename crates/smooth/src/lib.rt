@@ -122,7 +122,7 @@ fn smooth_block(field: &mut Field<'_>, t: &Tile, delta: i8, start: usize, end: u
         rows: t.count(top, t.bottom.min(top + t.block)),
         cols: t.count(start, end),
     };
-    // Lent, as an answer of 512 bytes is copied twice.
+    // Lent: an answer of 512 bytes is copied by `memcpy`, which the passes' archive for C then asks for from outside.
     let mut means = [[Mv::EMPTY; 8]; 8];
     block_means(field, t, block, &mut means);
     put_means(field, &means, t, delta, block);
