@@ -149,7 +149,7 @@ fn show_loaded<W: Write>(
     requires complete { Complete file.now setup.now }
     ensures { Shows W.contents wanted file.now to.old to.new result }
 {
-    // A field of 256 x 256 cells, empty. Literals, and not made by `from_file::filled`: what a function answers takes room of its own on the stack.
+    // A field of 256 x 256 cells, empty. Literals: as answers of `from_file::filled` they took 256 KiB more of the stack.
     let mut ys = [levels::INVALID_MV; 65536];
     let mut xs = [0i32; 65536];
     let mut references = [0u8; 65536];
@@ -189,7 +189,7 @@ fn show_input<R: Read, W: Write>(
     show(to, &file[..n], wanted)
 }
 
-// `inline(never)`: the buffers stand in its frame, and what is wrong with the arguments is told without their room.
+// `inline(never)`: the program's buffers stand in this function's frame or below it, so that what is wrong with the arguments is told without their room.
 #[inline(never)]
 fn run<R: Read, W: Write>(from: &mut R, to: &mut W, wanted: Wanted) -> Result<u32, Problem> {
     let mut file: [u8; 2753636] = from_file::filled(0);
